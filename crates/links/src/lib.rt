@@ -1,0 +1,11 @@
+// Loads and links: rules 1 and 2 of document 01, the neighbor query and the list test, options and stats, parts of the lent work slice.
+mod options;
+mod owners;
+mod parts;
+
+pub use options::AbtmMultilevelOptions;
+pub use options::AbtmMultilevelStats;
+pub use owners::Assignment;
+pub use owners::Count;
+pub use owners::Owner;
+pub use parts::index;

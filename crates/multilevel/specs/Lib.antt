@@ -1,0 +1,3 @@
+pub mod Causes
+pub mod Division
+pub mod Demand3

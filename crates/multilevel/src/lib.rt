@@ -1,0 +1,1 @@
+// The driver: rule 8 of document 01, over the promises of links and stages.

@@ -1,0 +1,5 @@
+pub mod Coarsen
+pub mod Seeds
+pub mod Growth
+pub mod Moves
+pub mod Swaps
