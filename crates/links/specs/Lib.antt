@@ -1,5 +1,6 @@
 pub mod Lists
 pub mod Parts
+pub mod Best
 pub mod Loads
 pub mod Graph
 pub mod Owners

@@ -1,0 +1,5 @@
+pub mod ListLaws
+pub mod PartLaws
+pub mod BestLaws
+pub mod SoundLaws
+pub mod RowLaws

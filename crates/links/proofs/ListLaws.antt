@@ -1,0 +1,271 @@
+-- Laws of tests and of the functions on lists that the rules are written with. Assumes nothing.
+use Prim.Native.Nat.{ℕ, zero, suc, _+_, _≤_, _<_}
+use mathlib.Core.Path.{_≡_, refl, sym, ap, _∙_, subst}
+use mathlib.Core.Bool.{Bool, true, false, not, _&&_, _||_, cond, true≢false, false≢true}
+use mathlib.Core.List.{List, [], _∷_, _++_, map, nil≢cons, head-eq-of-cons-eq, tail-eq-of-cons-eq}
+use mathlib.Core.Option.{Option, none, some}
+use native.Mathlib.Omega.{arith}
+use lib.ListN.{length, getD, take}
+use lib.Dec.{leb, ltb, eqb}
+use borrow.Author.Tests.{eq-eqb, ne-eqb, eqb-true, eqb-false, lt-ltb, le-ltb}
+use Rattle.links.specs.Lists.{All, filter, any, all, foldl, best, bestFrom, insert, sortBy, range, concatMap, elem}
+
+-- by cases on a test, with the equation at hand
+pub split {ℓ} : {A : Type ℓ} (b : Bool) → (b ≡ true → A) → (b ≡ false → A) → A
+split true f g = f refl
+split false f g = g refl
+
+pub eqb-sym : (a b : ℕ) → eqb a b ≡ eqb b a
+eqb-sym a b = split (eqb a b) (λ p. p ∙ sym (eq-eqb b a (sym (eqb-true a b p)))) (λ p. p ∙ sym (ne-eqb b a (λ q. eqb-false a b p (sym q))))
+
+pub cond-zero : (b : Bool) → _≡_ {A = ℕ} (cond b 0 0) 0
+cond-zero true = refl
+cond-zero false = refl
+
+pub or-l : (a b : Bool) → a || b ≡ false → a ≡ false
+or-l true b e = e
+or-l false b e = refl
+
+pub or-r : (a b : Bool) → a || b ≡ false → b ≡ false
+or-r true b e = absurd (true≢false e)
+or-r false b e = e
+
+pub and-l : (a b : Bool) → a && b ≡ true → a ≡ true
+and-l true b e = refl
+and-l false b e = absurd (false≢true e)
+
+pub and-r : (a b : Bool) → a && b ≡ true → b ≡ true
+and-r true b e = e
+and-r false b e = absurd (false≢true e)
+
+pub and-i : (a b : Bool) → a ≡ true → b ≡ true → a && b ≡ true
+and-i a b e f = rw (e, f)
+
+pub not-of : (b : Bool) → not b ≡ true → b ≡ false
+not-of true e = sym e
+not-of false e = refl
+
+pub iff-eq : (a b : Bool) → (a ≡ true → b ≡ true) → (b ≡ true → a ≡ true) → a ≡ b
+iff-eq true b f g = sym (f refl)
+iff-eq false true f g = g refl
+iff-eq false false f g = refl
+
+-- 1 where a test passes
+abbrev pub tally : Bool → ℕ
+tally b = cond b 1 0
+
+-- how many of a list pass
+abbrev pub count : {A : Type 0} → (A → Bool) → List A → ℕ
+count p xs = length (filter p xs)
+
+module _ {A : Type 0} where
+  pub count-cons : (p : A → Bool) (x : A) (xs : List A) → count p (x ∷ xs) ≡ tally (p x) + count p xs
+  count-cons p x xs = go (p x)
+    where
+      go : (b : Bool) → length (cond b (x ∷ filter p xs) (filter p xs)) ≡ tally b + count p xs
+      go true = omega arith
+      go false = omega arith
+
+  pub count-is : (p : A → Bool) (x : A) (xs : List A) (b : Bool) → p x ≡ b → count p (x ∷ xs) ≡ tally b + count p xs
+  count-is p x xs b e = count-cons p x xs ∙ ap (λ (t : Bool). tally t + count p xs) e
+
+  pub count-length : (p : A → Bool) (xs : List A) → count p xs ≤ length xs
+  count-length p [] = omega arith
+  count-length p (x ∷ xs) = split (p x) (λ q. omega (arith, count-is p x xs true q, count-length p xs)) (λ q. omega (arith, count-is p x xs false q, count-length p xs))
+
+  pub any-counts : (p : A → Bool) (xs : List A) → any p xs ≡ true → 1 ≤ count p xs
+  any-counts p [] e = absurd (false≢true e)
+  any-counts p (x ∷ xs) e = split (p x) (λ q. omega (arith, count-is p x xs true q)) (λ q. omega (arith, count-is p x xs false q, any-counts p xs (rw q at e)))
+
+  pub count-append : (p : A → Bool) (xs ys : List A) → count p (xs ++ ys) ≡ count p xs + count p ys
+  count-append p [] ys = omega arith
+  count-append p (x ∷ xs) ys = omega (arith, count-cons p x (xs ++ ys), count-cons p x xs, count-append p xs ys)
+
+  module _ (P : A → Type 0) where
+    pub all-filter : (p : A → Bool) (xs : List A) → All P xs → All P (filter p xs)
+    all-filter p [] a = tt
+    all-filter p (x ∷ xs) a = split (p x) (λ q. rw q (a .0, all-filter p xs (a .1))) (λ q. rw q (all-filter p xs (a .1)))
+
+    pub all-append : (xs ys : List A) → All P xs → All P ys → All P (xs ++ ys)
+    all-append [] ys a b = b
+    all-append (x ∷ xs) ys a b = (a .0, all-append xs ys (a .1) b)
+
+    pub all-at : (xs before later : List A) (x : A) → All P xs → xs ≡ before ++ x ∷ later → P x
+    all-at [] [] later x a e = absurd (nil≢cons e)
+    all-at [] (b ∷ before) later x a e = absurd (nil≢cons e)
+    all-at (y ∷ ys) [] later x a e = subst P (head-eq-of-cons-eq e) (a .0)
+    all-at (y ∷ ys) (b ∷ before) later x a e = all-at ys before later x (a .1) (tail-eq-of-cons-eq e)
+
+    pub all-take : (n : ℕ) (xs : List A) → All P xs → All P (take n xs)
+    all-take zero xs a = tt
+    all-take (suc n) [] a = tt
+    all-take (suc n) (x ∷ xs) a = (a .0, all-take n xs (a .1))
+
+    pub all-insert : (before : A → A → Bool) (x : A) (ys : List A) → P x → All P ys → All P (insert before x ys)
+    all-insert before x [] p a = (p, tt)
+    all-insert before x (y ∷ ys) p a = split (before x y) (λ q. rw q (p, a)) (λ q. rw q (a .0, all-insert before x ys p (a .1)))
+
+    pub all-sort : (before : A → A → Bool) (xs : List A) → All P xs → All P (sortBy before xs)
+    all-sort before xs a = go [] xs tt a
+      where
+        go : (ys zs : List A) → All P ys → All P zs → All P (foldl (λ ys x. insert before x ys) ys zs)
+        go ys [] a b = a
+        go ys (z ∷ zs) a b = go (insert before z ys) zs (all-insert before z ys (b .0) a) (b .1)
+
+    -- a test that passes on all
+    pub all-of : (p : A → Bool) → ((x : A) → p x ≡ true → P x) → (xs : List A) → all p xs ≡ true → All P xs
+    all-of p f [] e = tt
+    all-of p f (x ∷ xs) e = split (p x) (λ q. (f x q, all-of p f xs (rw q at e))) (λ q. absurd (false≢true (rw q at e)))
+
+    -- what is kept passes
+    pub all-kept : (p : A → Bool) → ((x : A) → p x ≡ true → P x) → (xs : List A) → All P (filter p xs)
+    all-kept p f [] = tt
+    all-kept p f (x ∷ xs) = split (p x) (λ q. rw q (f x q, all-kept p f xs)) (λ q. rw q (all-kept p f xs))
+
+  pub all-to : (P Q : A → Type 0) → ((x : A) → P x → Q x) → (xs : List A) → All P xs → All Q xs
+  all-to P Q f [] a = tt
+  all-to P Q f (x ∷ xs) a = (f x (a .0), all-to P Q f xs (a .1))
+
+  pub to-all : (P : A → Type 0) → ((x : A) → P x) → (xs : List A) → All P xs
+  to-all P f [] = tt
+  to-all P f (x ∷ xs) = (f x, to-all P f xs)
+
+module _ {A B : Type 0} (P : B → Type 0) where
+  pub all-map : (f : A → B) (xs : List A) → All (λ x. P (f x)) xs → All P (map f xs)
+  all-map f [] a = tt
+  all-map f (x ∷ xs) a = (a .0, all-map f xs (a .1))
+
+  pub all-concat : (f : A → List B) (xs : List A) → All (λ x. All P (f x)) xs → All P (concatMap f xs)
+  all-concat f [] a = tt
+  all-concat f (x ∷ xs) a = all-append P (f x) (concatMap f xs) (a .0) (all-concat f xs (a .1))
+
+-- i ≤ x < i + n
+pub all-range : (P : ℕ → Type 0) (i n : ℕ) → ((x : ℕ) → i ≤ x → x < i + n → P x) → All P (range i n)
+all-range P i zero f = tt
+all-range P i (suc n) f = (f i (omega arith) (omega arith), all-range P (suc i) n (λ x h k. f x (omega arith) (omega arith)))
+
+pub all-in : (P : ℕ → Type 0) (xs : List ℕ) (u : ℕ) → All P xs → elem u xs ≡ true → P u
+all-in P [] u a e = absurd (false≢true e)
+all-in P (x ∷ xs) u a e = split (eqb u x)
+    (λ p. subst P (sym (eqb-true u x p)) (a .0))
+    (λ p. all-in P xs u (a .1) (rw p at e))
+
+pub length-range : (i n : ℕ) → length (range i n) ≡ n
+length-range i zero = refl
+length-range i (suc n) = ap suc (length-range (suc i) n)
+
+-- ---- being in a list
+
+pub elem-filter : (x : ℕ) (p : ℕ → Bool) (xs : List ℕ) → elem x (filter p xs) ≡ (p x && elem x xs)
+elem-filter x p [] = split (p x) (λ q. rw q) (λ q. rw q)
+elem-filter x p (y ∷ ys) = split (eqb x y)
+    (λ e. let f : p y ≡ p x = ap p (sym (eqb-true x y e)) in
+    split (p x) (λ q. simp (f, q, e)) (λ q. simp (f, q, e) (elem-filter x p ys ∙ rw q)))
+    (λ e. split (p y) (λ q. simp (q, e) (elem-filter x p ys)) (λ q. simp (q, e) (elem-filter x p ys)))
+
+pub elem-range : (x i n : ℕ) → i ≤ x → x < i + n → elem x (range i n) ≡ true
+elem-range x i zero h k = absurd (omega arith)
+elem-range x i (suc n) h k = split (eqb x i) (λ p. rw p) (λ p. let d = eqb-false x i p in rw p (elem-range x (suc i) n (omega arith) (omega arith)))
+
+pub any-of : (p : ℕ → Bool) (xs : List ℕ) → any p xs ≡ true → (x : ℕ) × (elem x xs ≡ true) × (p x ≡ true)
+any-of p [] e = absurd (false≢true e)
+any-of p (x ∷ xs) e = split (p x)
+    (λ q. (x, rw (eq-eqb x x refl), q))
+    (λ q. let w = any-of p xs (rw q at e) in (w .0, split (eqb (w .0) x) (λ r. rw r) (λ r. rw r (w .1)), w .2))
+
+pub to-any : (p : ℕ → Bool) (xs : List ℕ) (x : ℕ) → elem x xs ≡ true → p x ≡ true → any p xs ≡ true
+to-any p [] x e f = absurd (false≢true e)
+to-any p (y ∷ ys) x e f = split (p y)
+    (λ q. rw q)
+    (λ q. rw q (to-any p ys x (split (eqb x y) (λ r. absurd (true≢false (sym f ∙ ap p (eqb-true x y r) ∙ q))) (λ r. rw r at e)) f))
+
+module _ {A : Type 0} where
+  pub any-none : (p : A → Bool) (xs : List A) → any p xs ≡ false → All (λ x. p x ≡ false) xs
+  any-none p [] e = tt
+  any-none p (x ∷ xs) e = split (p x) (λ q. absurd (true≢false (rw q at e))) (λ q. (q, any-none p xs (rw q at e)))
+
+pub elem-map : (x : ℕ) (f : ℕ → ℕ) (xs : List ℕ) → elem x (map f xs) ≡ any (λ u. eqb x (f u)) xs
+elem-map x f [] = refl
+elem-map x f (y ∷ ys) = ap (λ (b : Bool). cond (eqb x (f y)) true b) (elem-map x f ys)
+
+pub elem-append : (x : ℕ) (xs ys : List ℕ) → elem x (xs ++ ys) ≡ (elem x xs || elem x ys)
+elem-append x [] ys = refl
+elem-append x (y ∷ xs) ys = split (eqb x y) (λ p. rw p) (λ p. rw p (elem-append x xs ys))
+
+pub elem-concat : (x : ℕ) (f : ℕ → List ℕ) (xs : List ℕ) → elem x (concatMap f xs) ≡ any (λ v. elem x (f v)) xs
+elem-concat x f [] = refl
+elem-concat x f (y ∷ ys) = elem-append x (f y) (concatMap f ys) ∙ split (elem x (f y)) (λ p. rw p) (λ p. rw p (elem-concat x f ys))
+
+-- nothing in range is kept: nothing in range passes
+pub filter-none : (p : ℕ → Bool) (a n : ℕ) → filter p (range a n) ≡ [] → (v : ℕ) → a ≤ v → v < a + n → p v ≡ false
+filter-none p a n e v h k = split (p v)
+    (λ q. absurd (false≢true (ap (elem v) (sym e) ∙ elem-filter v p (range a n) ∙ and-i (p v) (elem v (range a n)) q (elem-range v a n h k))))
+    (λ q. q)
+
+pub none-filter : (p : ℕ → Bool) (xs : List ℕ) → All (λ x. p x ≡ false) xs → filter p xs ≡ []
+none-filter p [] a = refl
+none-filter p (x ∷ xs) a = rw (a .0) (none-filter p xs (a .1))
+
+-- ---- the best of a list
+
+module _ (b : ℕ → ℕ → Bool) where
+  best-some : (x : ℕ) (xs : List ℕ) → bestFrom b (some x) xs ≡ none → ⊥
+  best-some x [] e = let z : _≡_ {A = ℕ} 0 1 = cc in omega arith
+  best-some x (y ∷ ys) e = best-some (cond (b y x) y x) ys e
+
+  pub best-none : (xs : List ℕ) → best b xs ≡ none → xs ≡ []
+  best-none [] e = refl
+  best-none (x ∷ xs) e = absurd (best-some x xs e)
+
+  best-from : (P : ℕ → Type 0) (xs : List ℕ) (g : ℕ) (c : Option ℕ) → ((x : ℕ) → c ≡ some x → P x) → All P xs → bestFrom b c xs ≡ some g → P g
+  best-from P [] g c h a e = h g e
+  best-from P (x ∷ xs) g none h a e = best-from P xs g (some x) (λ y r. let z : x ≡ y = cc in subst P z (a .0)) (a .1) e
+  best-from P (x ∷ xs) g (some d) h a e =
+      best-from P xs g (some (cond (b x d) x d)) (λ y r. split (b x d)
+      (λ q. let z : x ≡ y = (let w : _≡_ {A = Option ℕ} (some x) (some y) = rw q at r in cc) in subst P z (a .0))
+      (λ q. h y (rw q at r))) (a .1) e
+
+  -- what holds of all holds of the best
+  pub best-all : (P : ℕ → Type 0) (xs : List ℕ) (g : ℕ) → All P xs → best b xs ≡ some g → P g
+  best-all P xs g a e = best-from P xs g none (λ x r. let z : _≡_ {A = ℕ} 0 1 = cc in absurd (omega arith)) a e
+
+  -- the best of those kept passes the test
+  pub best-kept : (p : ℕ → Bool) (xs : List ℕ) (g : ℕ) → best b (filter p xs) ≡ some g → p g ≡ true
+  best-kept p xs g e = best-all (λ x. p x ≡ true) (filter p xs) g (all-kept (λ x. p x ≡ true) p (λ x q. q) xs) e
+
+-- ---- sums from i on, n of them
+
+unfoldable pub total : ℕ → ℕ → (ℕ → ℕ) → ℕ
+total i zero f = 0
+total i (suc n) f = f i + total (suc i) n f
+
+pub total-ext : (i n : ℕ) (f h : ℕ → ℕ) → ((u : ℕ) → i ≤ u → u < i + n → f u ≡ h u) → total i n f ≡ total i n h
+unfolding total
+total-ext i zero f h e = refl
+total-ext i (suc n) f h e = omega (arith, total-ext (suc i) n f h (λ u k l. e u (omega arith) (omega arith)), e i (omega arith) (omega arith))
+
+pub total-add : (i n : ℕ) (f h : ℕ → ℕ) → total i n (λ u. f u + h u) ≡ total i n f + total i n h
+unfolding total
+total-add i zero f h = refl
+total-add i (suc n) f h = omega (arith, total-add (suc i) n f h)
+
+pub total-zero : (i n : ℕ) (f : ℕ → ℕ) → ((u : ℕ) → i ≤ u → u < i + n → f u ≡ 0) → total i n f ≡ 0
+unfolding total
+total-zero i zero f e = refl
+total-zero i (suc n) f e = omega (arith, total-zero (suc i) n f (λ u k l. e u (omega arith) (omega arith)), e i (omega arith) (omega arith))
+
+-- a sum in which only v counts
+pub total-point : (i n v : ℕ) (f : ℕ → ℕ) → i ≤ v → v < i + n → total i n (λ u. cond (eqb u v) (f u) 0) ≡ f v
+unfolding total
+total-point i zero v f h k = absurd (omega arith)
+total-point i (suc n) v f h k = split (eqb i v)
+    (λ p. let e : i ≡ v = eqb-true i v p in
+    let z : total (suc i) n (λ u. cond (eqb u v) (f u) 0) ≡ 0 = total-zero (suc i) n _ (λ u a b. rw (ne-eqb u v (λ q. omega arith)) refl) in
+    rw (p, z, e) (omega arith))
+    (λ p. let d = eqb-false i v p in
+    rw (p, total-point (suc i) n v f (omega arith) (omega arith)) (omega arith))
+
+pub count-concat : {A : Type 0} (p : A → Bool) (f : ℕ → List A) (i n : ℕ) → count p (concatMap f (range i n)) ≡ total i n (λ u. count p (f u))
+unfolding total
+count-concat p f i zero = refl
+count-concat p f i (suc n) = omega (arith, count-append p (f i) (concatMap f (range (suc i) n)), count-concat p f (suc i) n)

@@ -1,0 +1,192 @@
+-- Laws of parts: length, element, the same part, a disjoint part, a store through a part, and the frame. Assumes nothing.
+use Prim.Native.Nat.{ℕ, zero, suc, _+_, _-_, _≤_, _<_}
+use mathlib.Core.Path.{_≡_, refl, sym, ap, _∙_}
+use mathlib.Core.List.{List, [], _∷_, _++_, append-assoc, append-nil}
+use native.Mathlib.Omega.{arith}
+use native.Mathlib.Numerals.{add-one}
+use lib.ListN.{length, getD, take, drop, set, length-append, length-take, length-drop, length-set, take-append-drop, List·getD-append}
+use lib.Seq.{take-suc-set, getD-set-same, getD-set-other, take-at, drop-at, take-append-le, drop-append-le, length-take-le, drop-drop, take-take, getD-take, getD-drop, drop-set-add, take-set-lt, set-append-left, set-at, drop-cons, getD-append-add, take-add, ext-getD, drop-set-lt, take-set-le, getD-at, drop-length}
+use mathlib.Core.Logic.{⊎-elim}
+use native.Mathlib.Nat.{eq-or-lt-of-le, le-of-suc-le-suc}
+use Rattle.links.specs.Lists.{at}
+use Rattle.links.specs.Parts.{part, putBack, table, Kept}
+
+pub length-part : (w : List ℕ) (a e : ℕ) → a ≤ e → e ≤ length w → length (part w a e) ≡ e - a
+length-part w a e h k = length-take-le (e - a) (drop a w) (simp length-drop (omega arith))
+
+pub getD-part : (w : List ℕ) (a e i : ℕ) → i < e - a → getD (part w a e) i 0 ≡ getD w (a + i) 0
+getD-part w a e i h = rw (getD-take, getD-drop)
+
+module _ (w : List ℕ) (a e : ℕ) (ys : List ℕ) (h : a ≤ e) (k : e ≤ length w) (l : length ys ≡ e - a) where
+  pub length-putBack : length (putBack w a e ys) ≡ length w
+  length-putBack = simp (length-append, length-drop, length-take-le a w (omega arith)) (omega arith)
+
+  front : length (take a w) ≡ a
+  front = length-take-le a w (omega arith)
+
+  -- the part itself
+  pub part-putBack : part (putBack w a e ys) a e ≡ ys
+  part-putBack = rw (drop-at (take a w) (ys ++ drop (e - a) (drop a w)) a front, take-at ys (drop (e - a) (drop a w)) (e - a) l)
+
+  -- an element before it, in it, after it
+  pub getD-putBack-before : (i : ℕ) → i < a → getD (putBack w a e ys) i 0 ≡ getD w i 0
+  getD-putBack-before i m = rw (List·getD-append (take a w) (ys ++ drop (e - a) (drop a w)) 0 i (rw front (omega arith)), getD-take a w i 0 m)
+
+  pub getD-putBack-in : (i : ℕ) → i < e - a → getD (putBack w a e ys) (a + i) 0 ≡ getD ys i 0
+  getD-putBack-in i m =
+      let q : getD (putBack w a e ys) (length (take a w) + i) 0 ≡ getD (ys ++ drop (e - a) (drop a w)) i 0 = getD-append-add (take a w) (ys ++ drop (e - a) (drop a w)) i 0 in
+      let r : getD (ys ++ drop (e - a) (drop a w)) i 0 ≡ getD ys i 0 = List·getD-append ys (drop (e - a) (drop a w)) 0 i (omega arith) in
+      (rw front at q) ∙ r
+
+  pub getD-putBack-after : (i : ℕ) → e ≤ i → getD (putBack w a e ys) i 0 ≡ getD w i 0
+  getD-putBack-after i m =
+      let q : getD (putBack w a e ys) (length (take a w) + (length ys + (i - e))) 0 ≡ getD (ys ++ drop (e - a) (drop a w)) (length ys + (i - e)) 0 = getD-append-add (take a w) (ys ++ drop (e - a) (drop a w)) (length ys + (i - e)) 0 in
+      let j : length (take a w) + (length ys + (i - e)) ≡ i = rw (front, l) (omega arith) in
+      let t : a + (e - a + (i - e)) ≡ i = omega arith in
+      (rw j at q) ∙ rw (getD-append-add ys (drop (e - a) (drop a w)) (i - e) 0, getD-drop, getD-drop, t)
+
+-- two lists as long, which agree at each index from b up to f
+pub part-agree : (v w : List ℕ) (b f : ℕ) → length v ≡ length w → ((i : ℕ) → b ≤ i → i < f → getD v i 0 ≡ getD w i 0) → part v b f ≡ part w b f
+part-agree v w b f l h =
+    ext-getD 0 (part v b f) (part w b f) (simp (length-take, length-drop, l))
+    (λ i m.
+    let m′ : i < f - b = omega (arith, simp (length-take, length-drop) at m) in
+    rw (getD-part v b f i m′, getD-part w b f i m′) (h (b + i) (omega arith) (omega arith)))
+
+module _ (w : List ℕ) (a e : ℕ) (ys : List ℕ) (h : a ≤ e) (k : e ≤ length w) (l : length ys ≡ e - a) where
+  -- a part before it, and after it, is as it was
+  pub part-putBack-before : (b f : ℕ) → f ≤ a → part (putBack w a e ys) b f ≡ part w b f
+  part-putBack-before b f m = part-agree (putBack w a e ys) w b f (length-putBack w a e ys h k l) (λ i p q. getD-putBack-before w a e ys h k l i (omega arith))
+
+  pub part-putBack-after : (b f : ℕ) → e ≤ b → part (putBack w a e ys) b f ≡ part w b f
+  part-putBack-after b f m = part-agree (putBack w a e ys) w b f (length-putBack w a e ys h k l) (λ i p q. getD-putBack-after w a e ys h k l i (omega arith))
+
+  -- a second one in the same place
+  pub putBack-putBack : (zs : List ℕ) → putBack (putBack w a e ys) a e zs ≡ putBack w a e zs
+  putBack-putBack zs =
+      let q : drop (e - a) (drop a (putBack w a e ys)) ≡ drop (e - a) (drop a w) = rw (drop-at (take a w) (ys ++ drop (e - a) (drop a w)) a (front w a e ys h k l), drop-at ys (drop (e - a) (drop a w)) (e - a) l) in
+      rw (q, take-at (take a w) (ys ++ drop (e - a) (drop a w)) a (front w a e ys h k l))
+
+-- what is there, putBack there
+pub putBack-part : (w : List ℕ) (a e : ℕ) → putBack w a e (part w a e) ≡ w
+putBack-part w a e = rw (take-append-drop (e - a) (drop a w), take-append-drop a w)
+
+-- a store through a part is a store
+pub putBack-set : (w : List ℕ) (a e i v : ℕ) → a ≤ e → e ≤ length w → i < e - a → putBack w a e (set (part w a e) i v) ≡ set w (a + i) v
+putBack-set w a e i v h k m =
+    rw (← take-set-lt (e - a) (drop a w) i v m, ← drop-set-lt (e - a) (drop a w) i v m, take-append-drop (e - a) (set (drop a w) i v), ← drop-set-add a w i v, ← take-set-le a w (a + i) v (omega arith), take-append-drop a (set w (a + i) v))
+
+-- a list made from a rule
+pub length-table : (f : ℕ → ℕ) (n : ℕ) → length (table f n) ≡ n
+length-table f zero = refl
+length-table f (suc n) = rw (length-append, length-table f n) (omega arith)
+
+pub table-ext : (f g : ℕ → ℕ) (n : ℕ) → ((i : ℕ) → i < n → f i ≡ g i) → table f n ≡ table g n
+table-ext f g zero h = refl
+table-ext f g (suc n) h = rw (table-ext f g n (λ i m. h i (omega arith)), h n (omega arith))
+
+pub getD-table : (f : ℕ → ℕ) (n i : ℕ) → i < n → getD (table f n) i 0 ≡ f i
+getD-table f zero i h = absurd (omega arith)
+getD-table f (suc n) i h =
+    ⊎-elim
+    (λ q. ap (λ (k : ℕ). getD (table f n ++ (f n ∷ [])) k 0) q ∙ getD-at (table f n) (f n) [] 0 n (length-table f n) ∙ ap f (sym q))
+    (λ m. List·getD-append (table f n) (f n ∷ []) 0 i (rw (length-table f n) m) ∙ getD-table f n i m)
+    (eq-or-lt-of-le (le-of-suc-le-suc h))
+
+-- a loop that fills from the front
+pub fill : (f : ℕ → ℕ) (d : List ℕ) (i : ℕ) → i < length d → set (table f i ++ drop i d) i (f i) ≡ table f (i + 1) ++ drop (i + 1) d
+fill f d i h =
+    rw (drop-cons d i 0 h, set-at (table f i) (getD d i 0) (drop (suc i) d) (f i) i (length-table f i), add-one i, append-assoc (table f i) (f i ∷ []) (drop (suc i) d))
+
+-- and its end
+pub fill-done : (f : ℕ → ℕ) (d : List ℕ) (i : ℕ) → i ≡ length d → table f i ++ drop i d ≡ table f (length d)
+fill-done f d i q = rw (q, drop-length d, append-nil)
+
+pub part-length : (w₀ : List ℕ) (a e : ℕ) (f : ℕ → ℕ) (i : ℕ) → a ≤ e → e ≤ length w₀ → i < e - a → length (table f i ++ drop i (part w₀ a e)) ≡ e - a
+part-length w₀ a e f i h k m = simp (length-append, length-table, length-drop, length-part w₀ a e h k) (omega arith)
+
+-- a part that is filled from the front, through loans of it for one store each
+pub part-step : (w₀ w : List ℕ) (a e : ℕ) (f : ℕ → ℕ) (i x : ℕ) → a ≤ e → e ≤ length w₀ → i < e - a
+    → w ≡ putBack w₀ a e (table f i ++ drop i (part w₀ a e)) → x ≡ f i
+    → putBack w a e (set (part w a e) i x) ≡ putBack w₀ a e (table f (i + 1) ++ drop (i + 1) (part w₀ a e))
+part-step w₀ w a e f i x h k m q r =
+    let ys : List ℕ = table f i ++ drop i (part w₀ a e) in
+    let l : length ys ≡ e - a = part-length w₀ a e f i h k m in
+    ap (λ (v : List ℕ). putBack v a e (set (part v a e) i x)) q
+    ∙ ap (λ (t : List ℕ). putBack (putBack w₀ a e ys) a e (set t i x)) (part-putBack w₀ a e ys h k l)
+    ∙ putBack-putBack w₀ a e ys h k l (set ys i x)
+    ∙ ap (λ (v : ℕ). putBack w₀ a e (set ys i v)) r
+    ∙ ap (putBack w₀ a e) (fill f (part w₀ a e) i (rw (length-part w₀ a e h k) m))
+
+-- the same through a store in the whole
+pub whole-step : (w₀ w : List ℕ) (a e : ℕ) (f : ℕ → ℕ) (i x : ℕ) → a ≤ e → e ≤ length w₀ → i < e - a
+    → w ≡ putBack w₀ a e (table f i ++ drop i (part w₀ a e)) → x ≡ f i
+    → set w (a + i) x ≡ putBack w₀ a e (table f (i + 1) ++ drop (i + 1) (part w₀ a e))
+whole-step w₀ w a e f i x h k m q r =
+    let l : length w ≡ length w₀ = ap length q ∙ length-putBack w₀ a e (table f i ++ drop i (part w₀ a e)) h k (part-length w₀ a e f i h k m) in
+    sym (putBack-set w a e i x h (rw l k) m) ∙ part-step w₀ w a e f i x h k m q r
+
+-- the simplest frame: all below a is as it was, so each part below a is
+pub same-below : (v w : List ℕ) (a b f : ℕ) → length v ≡ length w → take a v ≡ take a w → f ≤ a → part v b f ≡ part w b f
+same-below v w a b f l q h =
+    part-agree v w b f l
+    (λ i p m.
+    sym (getD-take a v i 0 (omega arith)) ∙ ap (λ (t : List ℕ). getD t i 0) q ∙ getD-take a w i 0 (omega arith))
+
+-- and what is putBack at b or above leaves it so
+pub take-putBack-above : (w : List ℕ) (a b e : ℕ) (ys : List ℕ) → a ≤ b → b ≤ length w → take a (putBack w b e ys) ≡ take a w
+take-putBack-above w a b e ys h k =
+    take-append-le a (take b w) (ys ++ drop (e - b) (drop b w)) (rw (length-take-le b w k) h) ∙ take-take a b w h
+
+-- ---- a store, seen through a part
+
+-- a store in a part
+pub part-set-in : (w : List ℕ) (a e i x : ℕ) → a ≤ e → e ≤ length w → i < e - a → part (set w (a + i) x) a e ≡ set (part w a e) i x
+part-set-in w a e i x h k m =
+    ap (λ (z : List ℕ). part z a e) (sym (putBack-set w a e i x h k m))
+    ∙ part-putBack w a e (set (part w a e) i x) h k (length-set (part w a e) i x ∙ length-part w a e h k)
+
+-- a store before, or after
+pub part-set-before : (w : List ℕ) (a e j x : ℕ) → j < a → part (set w j x) a e ≡ part w a e
+part-set-before w a e j x h = part-agree (set w j x) w a e (length-set w j x) (λ i p q. getD-set-other w j i x 0 (λ z. omega arith))
+
+pub part-set-after : (w : List ℕ) (a e j x : ℕ) → e ≤ j → part (set w j x) a e ≡ part w a e
+part-set-after w a e j x h = part-agree (set w j x) w a e (length-set w j x) (λ i p q. getD-set-other w j i x 0 (λ z. omega arith))
+
+-- a store at the end of a part makes it longer
+pub part-set-end : (w : List ℕ) (a g x : ℕ) → a + g < length w → part (set w (a + g) x) a (a + (g + 1)) ≡ part w a (a + g) ++ (x ∷ [])
+part-set-end w a g x h =
+    let e : a + (g + 1) - a ≡ suc g = omega arith in
+    let e′ : a + g - a ≡ g = omega arith in
+    rw (e, e′, drop-set-add a w g x) (take-suc-set (drop a w) g x (simp length-drop (omega arith)))
+
+-- what is kept
+pub kept-refl : (a e : ℕ) (w : List ℕ) → Kept a e w w
+kept-refl a e w = record { same-length = refl; below = λ i h. refl; beyond = λ i h. refl }
+
+pub kept-trans : (a e : ℕ) (w w₁ w₀ : List ℕ) → Kept a e w w₁ → Kept a e w₁ w₀ → Kept a e w w₀
+kept-trans a e w w₁ w₀ p q = record {
+  same-length = p .same-length ∙ q .same-length;
+  below = λ i h. p .below i h ∙ q .below i h;
+  beyond = λ i h. p .beyond i h ∙ q .beyond i h;
+}
+
+pub kept-set : (a e : ℕ) (w w₀ : List ℕ) (i x : ℕ) → Kept a e w w₀ → a ≤ i → i < e → Kept a e (set w i x) w₀
+kept-set a e w w₀ i x k h l = record {
+  same-length = length-set w i x ∙ k .same-length;
+  below = λ j m. getD-set-other w i j x 0 (λ q. omega arith) ∙ k .below j m;
+  beyond = λ j m. getD-set-other w i j x 0 (λ q. omega arith) ∙ k .beyond j m;
+}
+
+pub kept-wide : (a e b f : ℕ) (w w₀ : List ℕ) → b ≤ a → e ≤ f → Kept a e w w₀ → Kept b f w w₀
+kept-wide a e b f w w₀ h m k = record { same-length = k .same-length; below = λ i p. k .below i (omega arith); beyond = λ i p. k .beyond i (omega arith) }
+
+pub kept-part-before : (a e : ℕ) (w w₀ : List ℕ) → Kept a e w w₀ → (b f : ℕ) → f ≤ a → part w b f ≡ part w₀ b f
+kept-part-before a e w w₀ k b f h = part-agree w w₀ b f (k .same-length) (λ i p q. k .below i (omega arith))
+
+pub kept-part-after : (a e : ℕ) (w w₀ : List ℕ) → Kept a e w w₀ → (b f : ℕ) → e ≤ b → part w b f ≡ part w₀ b f
+kept-part-after a e w w₀ k b f h = part-agree w w₀ b f (k .same-length) (λ i p q. k .beyond i (omega arith))
+
+-- what a part that was lent leaves
+pub kept-putBack : (w : List ℕ) (a e : ℕ) (ys : List ℕ) → a ≤ e → e ≤ length w → length ys ≡ e - a → Kept a e (putBack w a e ys) w
+kept-putBack w a e ys h k l = record { same-length = length-putBack w a e ys h k l; below = getD-putBack-before w a e ys h k l; beyond = getD-putBack-after w a e ys h k l }

@@ -1,0 +1,85 @@
+-- Laws of rows: where the row of a vertex lies in the neighbor slice, and what its entries are. Assumes nothing.
+use mathlib.Core.Path.{_≡_, refl, sym, ap, _∙_}
+use mathlib.Core.Bool.{Bool, true, false, cond, _&&_, false≢true}
+use mathlib.Core.List.{List, [], _∷_, map}
+use Prim.Native.Nat.{ℕ, zero, suc, _+_, _-_, _≤_, _<_}
+use native.Mathlib.Nat.{not-suc-le-zero, le-of-suc-le-suc, zero-add}
+use native.Mathlib.Omega.{arith}
+use borrow.Author.Tests.{le-leb, lt-leb, ltb-true}
+use lib.Dec.{eqb, leb, ltb}
+use lib.ListN.{length, getD, length-map}
+use Rattle.links.specs.Lists.{at, All, all, range}
+use Rattle.links.specs.Parts.{part}
+use Rattle.links.specs.Graph.{row, rowsOf, vertexCount, neighborsOf, neighborsCause, strictlyRising, Sound, SoundLists}
+use Rattle.links.proofs.ListLaws.{split, length-range, all-of}
+use Rattle.links.proofs.PartLaws.{length-part, getD-part}
+
+pub getD-map-range : (f : ℕ → List ℕ) (i n k : ℕ) → k < n → getD (map f (range i n)) k [] ≡ f (i + k)
+getD-map-range f i zero k h = absurd (not-suc-le-zero h)
+getD-map-range f i (suc n) zero h = let e : i + 0 ≡ i = omega arith in rw e
+getD-map-range f i (suc n) (suc k) h =
+    let e : suc i + k ≡ i + suc k = omega arith in
+    getD-map-range f (suc i) n k (le-of-suc-le-suc h) ∙ ap f e
+
+pub length-rows : (o l : List ℕ) → length (rowsOf o l) ≡ vertexCount o
+unfolding rowsOf
+length-rows o l = length-map (range 0 (vertexCount o)) (neighborsOf o l) ∙ length-range 0 (vertexCount o)
+
+pub row-query : (o l : List ℕ) (v : ℕ) → v < vertexCount o → row (rowsOf o l) v ≡ neighborsOf o l v
+unfolding rowsOf
+row-query o l v h = getD-map-range (neighborsOf o l) 0 (vertexCount o) v h ∙ ap (neighborsOf o l) (zero-add v)
+
+-- what holds of each of a list holds at each place
+pub all-place : (P : ℕ → Type 0) (xs : List ℕ) (i : ℕ) → All P xs → i < length xs → P (at xs i)
+all-place P [] i a h = absurd (not-suc-le-zero h)
+all-place P (x ∷ xs) zero a h = a .0
+all-place P (x ∷ xs) (suc i) a h = all-place P xs i (a .1) (le-of-suc-le-suc h)
+
+-- a strictly rising list, by its places
+pub rises-by : (xs : List ℕ) → strictlyRising xs ≡ true → (i j : ℕ) → i < j → j < length xs → at xs i < at xs j
+rises-by [] e i j h k = absurd (not-suc-le-zero k)
+rises-by (x ∷ xs) e i zero h k = absurd (not-suc-le-zero h)
+rises-by (x ∷ xs) e zero (suc j) h k = split (all (ltb x) xs)
+    (λ p. ltb-true x (at xs j) (all-place (λ z. ltb x z ≡ true) xs j (all-of (λ z. ltb x z ≡ true) (ltb x) (λ z r. r) xs p) (le-of-suc-le-suc k)))
+    (λ p. absurd (false≢true (rw p at e)))
+rises-by (x ∷ xs) e (suc i) (suc j) h k = split (all (ltb x) xs)
+    (λ p. rises-by xs (rw p at e) i j (le-of-suc-le-suc h) (le-of-suc-le-suc k))
+    (λ p. absurd (false≢true (rw p at e)))
+
+module _ (o l : List ℕ) (s : SoundLists o l) where
+  climb : (a d : ℕ) → a + d ≤ vertexCount o → at o a ≤ at o (a + d)
+  climb a zero h = let e : a + 0 ≡ a = omega arith in rw e (omega arith)
+  climb a (suc d) h =
+      let e : a + suc d ≡ a + d + 1 = omega arith in
+      let p : at o a ≤ at o (a + d) = climb a d (omega arith) in
+      let q : at o (a + d) ≤ at o (a + d + 1) = s .rises (a + d) (omega arith) in
+      rw e (omega arith)
+
+  pub offsets-rise : (a b : ℕ) → a ≤ b → b ≤ vertexCount o → at o a ≤ at o b
+  offsets-rise a b h k = let e : a + (b - a) ≡ b = omega arith in rw e at (climb a (b - a) (omega arith))
+
+  pub offsets-fit : (v : ℕ) → v ≤ vertexCount o → at o v ≤ length l
+  offsets-fit v h = omega (arith, offsets-rise v (vertexCount o) h (omega arith), s .last)
+
+  module _ (v : ℕ) (h : v < vertexCount o) where
+    pub row-is : row (rowsOf o l) v ≡ part l (at o v) (at o (v + 1))
+    unfolding neighborsOf neighborsCause
+    row-is =
+        let a : leb (vertexCount o) v ≡ false = lt-leb (vertexCount o) v h in
+        let b : leb (at o v) (at o (v + 1)) ≡ true = le-leb _ _ (s .rises v h) in
+        let c : leb (at o (v + 1)) (length l) ≡ true = le-leb _ _ (offsets-fit (v + 1) (omega arith)) in
+        row-query o l v h ∙ rw (a, b, c)
+
+    pub length-row : length (row (rowsOf o l) v) ≡ at o (v + 1) - at o v
+    length-row = ap length row-is ∙ length-part l (at o v) (at o (v + 1)) (s .rises v h) (offsets-fit (v + 1) (omega arith))
+
+    pub row-at : (i : ℕ) → i < length (row (rowsOf o l) v) → at (row (rowsOf o l) v) i ≡ at l (at o v + i)
+    row-at i m = ap (λ (r : List ℕ). at r i) row-is ∙ getD-part l (at o v) (at o (v + 1)) i (rw length-row at m)
+
+    pub row-below : (i : ℕ) → i < length (row (rowsOf o l) v) → at (row (rowsOf o l) v) i < vertexCount o
+    row-below i m =
+        let e = length-rows o l in
+        rw e at (all-place (λ u. u < length (rowsOf o l)) (row (rowsOf o l) v) i (s .sound .below v (rw e h)) m)
+
+    pub row-rises : (i j : ℕ) → i < j → j < length (row (rowsOf o l) v) → at (row (rowsOf o l) v) i < at (row (rowsOf o l) v) j
+    row-rises = rises-by (row (rowsOf o l) v) (s .sound .rises v (rw (length-rows o l) h))
