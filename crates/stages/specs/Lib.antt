@@ -1,3 +1,4 @@
+pub mod Level
 pub mod Coarsen
 pub mod Seeds
 pub mod Growth
