@@ -1,0 +1,3 @@
+pub mod CutLaws
+pub mod StepLaws
+pub mod GrowthLaws
