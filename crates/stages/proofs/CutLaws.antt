@@ -299,7 +299,7 @@ step-cut rows so own (swap u v) n i g = swap-gain rows so own u v (i .0) (i .1) 
 
 -- ---- entries
 
-total-le : (i n : ℕ) (f h : ℕ → ℕ) → ((u : ℕ) → f u ≤ h u) → total i n f ≤ total i n h
+pub total-le : (i n : ℕ) (f h : ℕ → ℕ) → ((u : ℕ) → f u ≤ h u) → total i n f ≤ total i n h
 unfolding total
 total-le i zero f h e = omega arith
 total-le i (suc n) f h e = omega (arith, total-le (suc i) n f h e, e i)
