@@ -1,3 +1,4 @@
 pub mod LevelLaws
 pub mod DivisionLaws
 pub mod Demand3Laws
+pub mod SiteLaws
