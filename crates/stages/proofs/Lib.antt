@@ -1,0 +1,5 @@
+pub mod CutLaws
+pub mod StepLaws
+pub mod GrowthLaws
+pub mod LoadLaws
+pub mod GroupingLaws
