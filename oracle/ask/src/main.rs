@@ -2,7 +2,7 @@
 //!
 //!     ask [--trace] < site
 //!
-//! The site is text, in lines (what follows a # is left out):
+//! The site is text, in lines (a ; ends a line too; what follows a # is left out):
 //!     n k L per t passes       vertices, ranks, max_levels, coarse_vertices_per_rank, imbalance_per_mille, refinement_passes
 //!     a b                      a link, once, in either order; as many lines as there are links
 //!
@@ -14,18 +14,19 @@
 //! From oracle/: HIPSTERN_RUST_SRC=.. cargo run -q --release -p ask -- --trace < site
 use reference::answers::{Options, partition};
 use reference::sites::Site;
-use reference::stages;
+use reference::trace::{Trace, trace};
 use std::io::Read;
 
 fn main() {
-    let trace = match std::env::args().skip(1).collect::<Vec<_>>().as_slice() {
+    let traced = match std::env::args().skip(1).collect::<Vec<_>>().as_slice() {
         [] => false,
         [word] if word == "--trace" => true,
         _ => stop("usage: ask [--trace] < site"),
     };
     let mut text = String::new();
     std::io::stdin().read_to_string(&mut text).unwrap_or_else(|e| stop(&e.to_string()));
-    let lines: Vec<_> = text.lines().map(numbers).filter(|line| !line.is_empty()).collect();
+    let lines = text.lines().flat_map(|line| line.split('#').next().unwrap_or("").split(';'));
+    let lines: Vec<_> = lines.map(numbers).filter(|line| !line.is_empty()).collect();
     let Some((first, rest)) = lines.split_first() else { stop("no line") };
     let &[n, k, max_levels, coarse_vertices_per_rank, imbalance_per_mille, refinement_passes] = first.as_slice() else {
         stop("the first line is n k L per t passes")
@@ -38,8 +39,8 @@ fn main() {
     let options = Options { max_levels, coarse_vertices_per_rank, imbalance_per_mille, refinement_passes };
     let ranks = u32::try_from(k).unwrap_or_else(|_| stop("k is above 2^32 - 1"));
     let answer = partition(&site.offsets, &site.neighbors, ranks, options);
-    if trace && !matches!(answer, Err(1..=5)) {
-        print_stages(&site, ranks, options);
+    if traced && !matches!(answer, Err(1..=5)) {
+        print_stages(&trace(&site.rows(), ranks, options));
     }
     match answer {
         Err(number) => println!("refused {number}"),
@@ -51,8 +52,7 @@ fn main() {
 }
 
 fn numbers(line: &str) -> Vec<u64> {
-    let words = line.split('#').next().unwrap_or("").split_whitespace();
-    words.map(|w| w.parse().unwrap_or_else(|_| stop(&format!("no number: {w}")))).collect()
+    line.split_whitespace().map(|w| w.parse().unwrap_or_else(|_| stop(&format!("no number: {w}")))).collect()
 }
 
 fn words<T: ToString>(list: &[T]) -> String {
@@ -64,52 +64,26 @@ fn stop(why: &str) -> ! {
     std::process::exit(2)
 }
 
-/// Rule 8's order of the stages, each printed; it ends at a refusal.
-fn print_stages(site: &Site, ranks: u32, o: Options) {
-    let (t, passes) = (o.imbalance_per_mille as u32, o.refinement_passes as usize);
-    let stop = (ranks as usize).saturating_mul(o.coarse_vertices_per_rank as usize).max(ranks as usize);
-    let total = site.vertices();
-    let (cap, floor) = (stages::load_cap(total, ranks, t), stages::minimum_load(total, ranks, t));
-    println!("cap {cap} floor {floor}");
-
-    let mut levels = vec![(site.rows(), vec![1usize; total])];
-    let mut maps: Vec<Vec<usize>> = Vec::new();
-    loop {
-        let (rows, weights) = levels.last().expect("a level");
-        if maps.len() as u64 >= o.max_levels || rows.len() <= stop {
-            break;
-        }
-        let c = stages::coarsen_once_cached(rows, weights);
-        let kept = c.rows.len() < rows.len();
-        println!("coarsen groups {} {}", words(&c.fine_to_coarse), if kept { "" } else { "discarded" });
-        if !kept {
-            break;
-        }
-        println!("  weights {}", words(&c.weights));
-        for (v, row) in c.rows.iter().enumerate() {
+fn print_stages(trace: &Trace) {
+    println!("cap {} floor {}", trace.cap, trace.floor);
+    for (step, word) in
+        trace.coarsened.iter().map(|s| (s, "coarsened")).chain(trace.discarded.iter().map(|s| (s, "discarded")))
+    {
+        println!("{word} into {} groups: {}", step.rows.len(), words(&step.fine_to_coarse));
+        println!("  weights {}", words(&step.weights));
+        for (v, row) in step.rows.iter().enumerate() {
             println!("  row {v}: {}", words(row));
         }
-        levels.push((c.rows, c.weights));
-        maps.push(c.fine_to_coarse);
     }
-
-    let (rows, weights) = levels.last().expect("a level");
-    if let Ok(seeds) = stages::farthest_seeds(rows, ranks) {
-        println!("seeds {}", words(&seeds));
+    println!("seeds {}", words(&trace.seeds));
+    if let Ok(grown) = &trace.growth {
+        println!("growth {} restarts {}", words(&grown.owners), grown.restarts);
     }
-    let Ok((mut owners, restarts)) = stages::weighted_multisource_partition(rows, weights, ranks, t) else { return };
-    println!("growth {} restarts {restarts}", words(&owners));
-    for (level, (rows, weights)) in levels.iter().enumerate().rev() {
-        if let Some(map) = maps.get(level) {
-            owners = map.iter().map(|&group| owners[group]).collect();
-        }
-        let Ok((moved, moves)) = stages::refine_by_cut(rows, weights, ranks, &owners, t, passes) else { return };
-        println!("level {level} start {}", words(&owners));
-        println!("level {level} moved {} moves {moves}", words(&moved));
-        owners = moved;
+    for m in &trace.moved {
+        println!("level {} start {}", m.level, words(&m.start));
+        println!("level {} moved {} moves {}", m.level, words(&m.end), m.count);
     }
-    let swapped = stages::refine_fine_pair_swaps(&levels[0].0, ranks, &owners, t, passes.saturating_mul(4));
-    if let Ok((owners, swaps)) = swapped {
-        println!("swapped {} swaps {swaps}", words(&owners));
+    if let Some(m) = &trace.swapped {
+        println!("swapped {} swaps {}", words(&m.end), m.count);
     }
 }

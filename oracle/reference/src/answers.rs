@@ -116,6 +116,23 @@ pub struct Options {
     pub refinement_passes: u64,
 }
 
+impl Options {
+    /// 01's t is u64: above 2^32 it is as much above 500 as 2^32 − 1 is.
+    pub fn to_rust(self) -> AbtmMultilevelOptions {
+        AbtmMultilevelOptions {
+            max_levels: self.max_levels as usize,
+            coarse_vertices_per_rank: self.coarse_vertices_per_rank as usize,
+            imbalance_per_mille: u32::try_from(self.imbalance_per_mille).unwrap_or(u32::MAX),
+            refinement_passes: self.refinement_passes as usize,
+        }
+    }
+
+    /// 0, or 1.
+    pub fn validate(self) -> u32 {
+        stages::validate(self.to_rust())
+    }
+}
+
 /// An accepted division: an owner for each vertex, and the stats in the order of `AbtmMultilevelStats`.
 pub type Division = (Vec<u32>, [u64; 8]);
 
@@ -141,20 +158,19 @@ pub fn partition_lent(
     work_lent: usize,
 ) -> Result<Division, u32> {
     let (n, m) = (vertex_count(offsets), neighbors.len());
-    let o = options;
-    if o.max_levels == 0 || o.coarse_vertices_per_rank == 0 || o.refinement_passes == 0 || o.imbalance_per_mille > 500 {
+    if options.validate() != 0 {
         return Err(1);
     }
     if n == 0 || ranks == 0 || ranks as usize > n {
         return Err(2);
     }
-    if n > MAX_VERTICES || m > MAX_NEIGHBORS || ranks > MAX_RANKS || o.max_levels > MAX_LEVELS {
+    if n > MAX_VERTICES || m > MAX_NEIGHBORS || ranks > MAX_RANKS || options.max_levels > MAX_LEVELS {
         return Err(3);
     }
     if lists_cause(offsets, neighbors) != 0 {
         return Err(4);
     }
-    let (owners_need, work_need) = lent_needs(n, m, ranks, o.max_levels);
+    let (owners_need, work_need) = lent_needs(n, m, ranks, options.max_levels);
     if owners_lent < owners_need || work_lent < work_need {
         return Err(5);
     }
@@ -167,14 +183,8 @@ pub fn rust_partition(offsets: &[u32], neighbors: &[u32], ranks: u32, options: O
     let n = vertex_count(offsets);
     let matrix = Csr32Matrix::new(n, n, offsets.to_vec(), neighbors.to_vec(), vec![1.0; neighbors.len()])
         .expect("lists that make a matrix");
-    let options = AbtmMultilevelOptions {
-        max_levels: options.max_levels as usize,
-        coarse_vertices_per_rank: options.coarse_vertices_per_rank as usize,
-        // 01's t is u64: above 2^32 it is as much above 500 as 2^32 − 1 is
-        imbalance_per_mille: u32::try_from(options.imbalance_per_mille).unwrap_or(u32::MAX),
-        refinement_passes: options.refinement_passes as usize,
-    };
-    let (assignment, s) = abtm_multilevel_partition(&matrix, ranks, options).map_err(|e| refusal(&e, n, ranks))?;
+    let (assignment, s) =
+        abtm_multilevel_partition(&matrix, ranks, options.to_rust()).map_err(|e| refusal(&e, n, ranks))?;
     let stats = [
         s.levels_built,
         s.coarsest_vertices,

@@ -1,6 +1,7 @@
 //! The Rust that Hipstern follows, unchanged: the five files are included from where HIPSTERN_RUST_SRC says (build.rs), and
 //! nothing of them is in this repository. `stand_ins` has what they take from other files, `answers` what document 01 expects
-//! of a call (its own rule where 01 adds a refusal, else the Rust's answer), `stages` the Rust's private stages.
+//! of a call (its own rule where 01 adds a refusal, else the Rust's answer), `stages` the Rust's private stages, and
+//! `trace` a division by them.
 
 // All the crates that the sources name are this one.
 extern crate self as hybit_core;
@@ -11,6 +12,7 @@ pub mod answers;
 pub mod random;
 pub mod sites;
 mod stand_ins;
+pub mod trace;
 
 pub use csr32::Csr32Matrix;
 pub use dual_topology::AbtmDualTopology;

@@ -1,4 +1,5 @@
 //! Sites to compare on: a graph by its links, as sound lent lists, and generators of many shapes.
+use crate::answers::Options;
 use crate::random::Random;
 use std::collections::BTreeSet;
 
@@ -19,6 +20,12 @@ impl Site {
                 rows[b].insert(a as u32);
             }
         }
+        let rows: Vec<Vec<u32>> = rows.into_iter().map(|row| row.into_iter().collect()).collect();
+        Site::of_rows(&rows)
+    }
+
+    /// These rows as they stand, sound or not.
+    pub fn of_rows(rows: &[Vec<u32>]) -> Self {
         let mut site = Site { offsets: vec![0], neighbors: Vec::new() };
         for row in rows {
             site.neighbors.extend(row);
@@ -28,7 +35,7 @@ impl Site {
     }
 
     pub fn vertices(&self) -> usize {
-        self.offsets.len() - 1
+        self.offsets.len().saturating_sub(1)
     }
 
     pub fn row(&self, v: usize) -> &[u32] {
@@ -43,6 +50,18 @@ impl Site {
     pub fn links(&self) -> Vec<(usize, usize)> {
         let ends = (0..self.vertices()).flat_map(|v| self.row(v).iter().map(move |&u| (v, u as usize)));
         ends.filter(|(v, u)| v < u).collect()
+    }
+
+    /// A division of this site as `ask` reads it.
+    pub fn question(&self, ranks: u32, o: Options) -> String {
+        let Options { max_levels, coarse_vertices_per_rank, imbalance_per_mille, refinement_passes } = o;
+        let n = self.vertices();
+        let mut text =
+            format!("{n} {ranks} {max_levels} {coarse_vertices_per_rank} {imbalance_per_mille} {refinement_passes}");
+        for (a, b) in self.links() {
+            text += &format!("; {a} {b}");
+        }
+        text
     }
 
     /// The same graph with its vertices numbered anew at random: ties fall otherwise.
@@ -220,4 +239,70 @@ pub fn components(random: &mut Random, n: usize) -> Site {
         site = site.beside(&next);
     }
     site
+}
+
+/// A sound site's lists with one thing wrong, or nothing where the site has nothing to spoil.
+pub fn damaged(random: &mut Random, site: &Site) -> Site {
+    let (n, m) = (site.vertices(), site.neighbors.len());
+    let mut out = site.clone();
+    if n == 0 || m == 0 || random.once_in(2) {
+        spoil_numbers(random, &mut out);
+        return out;
+    }
+    // one row changed and the offsets with it, so that only the row is wrong
+    let mut rows: Vec<Vec<u32>> = (0..n).map(|v| site.row(v).to_vec()).collect();
+    let v = random.index(n);
+    let u = random.index(n) as u32;
+    let at = random.index(rows[v].len() + 1);
+    match random.below(7) {
+        0 if at < rows[v].len() => drop(rows[v].remove(at)),
+        1 if at < rows[v].len() => {
+            let again = rows[v][at];
+            rows[v].insert(at, again);
+        }
+        2 => rows[v].push(n as u32 + random.below(2) as u32),
+        3 => {
+            rows[v].push(v as u32);
+            rows[v].sort_unstable();
+        }
+        4 => rows[v].reverse(),
+        5 if at > 0 => rows[v].swap(at - 1, 0),
+        _ => {
+            rows[v].push(u);
+            rows[v].sort_unstable();
+            rows[v].dedup();
+        }
+    }
+    Site::of_rows(&rows)
+}
+
+/// One number of the lists changed, or a length.
+fn spoil_numbers(random: &mut Random, site: &mut Site) {
+    let (n, m) = (site.vertices(), site.neighbors.len());
+    let stray = [0, 1, n as u32, n as u32 + 1, m as u32, m as u32 + 1, u32::MAX];
+    let number = if random.once_in(2) { random.pick(&stray) } else { random.below(n as u64 + 1) as u32 };
+    match random.below(8) {
+        0 => site.offsets[random.index(n + 1)] = number,
+        1 => {
+            let at = random.index(n + 1);
+            site.offsets[at] =
+                if random.once_in(2) { site.offsets[at] + 1 } else { site.offsets[at].saturating_sub(1) };
+        }
+        2 => site.offsets.push(number),
+        3 => drop(site.offsets.pop()),
+        4 => site.offsets.clear(),
+        5 if m > 0 => site.neighbors[random.index(m)] = number,
+        6 if m > 0 => drop(site.neighbors.pop()),
+        _ => site.neighbors.push(number),
+    }
+}
+
+/// Options that a division takes, the small ones often.
+pub fn some_options(random: &mut Random) -> Options {
+    Options {
+        max_levels: random.pick(&[1, 2, 3, 12, 32]),
+        coarse_vertices_per_rank: random.pick(&[1, 1, 2, 3, 64, u64::MAX]),
+        imbalance_per_mille: random.pick(&[0, 30, 100, 200, 333, 334, 499, 500]),
+        refinement_passes: random.pick(&[1, 2, 3, 10, u64::MAX]),
+    }
 }

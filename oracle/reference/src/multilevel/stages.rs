@@ -1,6 +1,6 @@
 //! The Rust's private stages on rows (row v: v's neighbors, rising) and plain lists. A refusal is 01's number.
 //! Their premises are the Rust's own: symmetric rows, an owner below `ranks` for each vertex, ranks > 0.
-use super::{DistributedTopologyError, PartitionAssignment, RankId};
+use super::{AbtmMultilevelOptions, DistributedTopologyError, PartitionAssignment, RankId};
 use crate::answers::refusal;
 
 pub type Rows = Vec<Vec<usize>>;
@@ -13,6 +13,11 @@ pub struct Coarsened {
     pub fine_to_coarse: Vec<usize>,
     pub matched_pairs: usize,
     pub singleton_aggregates: usize,
+}
+
+/// 0, or 1.
+pub fn validate(options: AbtmMultilevelOptions) -> u32 {
+    options.validate().map_or_else(|e| refusal(&e, 0, 0), |()| 0)
 }
 
 pub fn load_cap(total_weight: usize, ranks: RankId, imbalance_per_mille: u32) -> usize {
@@ -31,7 +36,7 @@ pub fn coarsen_once_cached(rows: &[Vec<usize>], weights: &[usize]) -> Coarsened 
 }
 
 pub fn farthest_seeds(rows: &[Vec<usize>], ranks: RankId) -> Result<Vec<usize>, u32> {
-    super::farthest_seeds(rows, ranks).map_err(|e| number(e, rows.len(), ranks))
+    super::farthest_seeds(rows, ranks).map_err(|e| number(e))
 }
 
 /// Growth: the owners and the restarts, or 6, 7 or 8.
@@ -44,7 +49,7 @@ pub fn weighted_multisource_partition(
     let matrix = super::matrix_from_adjacency(rows).expect("rows make a matrix");
     super::weighted_multisource_partition(&matrix, weights, ranks, imbalance_per_mille)
         .map(|(assignment, restarts)| (assignment.owners().to_vec(), restarts))
-        .map_err(|e| number(e, rows.len(), ranks))
+        .map_err(|e| number(e))
 }
 
 /// Moves: the owners and the number of moves, or 9.
@@ -60,7 +65,7 @@ pub fn refine_by_cut(
     let mut assignment = PartitionAssignment::untested(ranks, owners.to_vec());
     super::refine_by_cut(&matrix, weights, &mut assignment, imbalance_per_mille, passes)
         .map(|moves| (assignment.owners().to_vec(), moves))
-        .map_err(|e| number(e, rows.len(), ranks))
+        .map_err(|e| number(e))
 }
 
 /// Swaps: the owners and the number of swaps.
@@ -75,9 +80,10 @@ pub fn refine_fine_pair_swaps(
     let mut assignment = PartitionAssignment::untested(ranks, owners.to_vec());
     super::refine_fine_pair_swaps(&matrix, &mut assignment, imbalance_per_mille, passes)
         .map(|swaps| (assignment.owners().to_vec(), swaps))
-        .map_err(|e| number(e, rows.len(), ranks))
+        .map_err(|e| number(e))
 }
 
-fn number(e: DistributedTopologyError, n: usize, ranks: RankId) -> u32 {
-    refusal(&e, n, ranks)
+/// Of a coarse level a rank count too great is the 7 of too few groups.
+fn number(e: DistributedTopologyError) -> u32 {
+    refusal(&e, usize::MAX, 1)
 }
