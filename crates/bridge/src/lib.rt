@@ -5,11 +5,12 @@ use links::Count;
 use links::Owner;
 ghost use mathlib.Core.Path.{_≡_};
 ghost use mathlib.Core.Bool.{cond};
+ghost use lib.ListN.{length};
 ghost use lib.Dec.{ltb};
 ghost use Rattle.links.specs.Lists.{at};
 ghost use Rattle.links.specs.Loads.{loadCap, minimumLoad};
 ghost use Rattle.links.specs.Options.{optionsCause};
-ghost use Rattle.links.specs.Graph.{owned};
+ghost use Rattle.links.specs.Graph.{owned, neighborsCause, neighborsOf, listsCause};
 ghost use Rattle.links.specs.Owners.{fromOwners, ownerCause, countCause};
 
 #[no_mangle]
@@ -90,4 +91,38 @@ pub extern "C" fn bridge_owned_count(ranks: u32, owners: &[u32], rank: u32, coun
             number
         }
     }
+}
+
+// 0, or the refusal.
+#[no_mangle]
+pub extern "C" fn bridge_neighbors_cause(offsets: &[u32], neighbors: &[u32], v: u64) -> u32
+    ensures { λ r. ⌜ r ≡ neighborsCause (now (offsets .entry)) (now (neighbors .entry)) v ⌝ }
+{
+    links::neighbors_cause(offsets, neighbors, v)
+}
+
+// How many neighbors vertex v has.
+#[no_mangle]
+pub extern "C" fn bridge_neighbor_count(offsets: &[u32], neighbors: &[u32], v: u64) -> u64
+    ensures { λ r. ⌜ r ≡ length (neighborsOf (now (offsets .entry)) (now (neighbors .entry)) v) ⌝ }
+{
+    links::neighbors_of(offsets, neighbors, v).len() as u64
+}
+
+// Vertex v's neighbor at i, 0 past the last.
+#[no_mangle]
+pub extern "C" fn bridge_neighbor(offsets: &[u32], neighbors: &[u32], v: u64, i: u64) -> u32
+    ensures { λ r. ⌜ r ≡ at (neighborsOf (now (offsets .entry)) (now (neighbors .entry)) v) i ⌝ }
+{
+    let row = links::neighbors_of(offsets, neighbors, v);
+    let at = i as usize;
+    if at < row.len() { row[at] } else { 0 }
+}
+
+// 0, or the refusal.
+#[no_mangle]
+pub extern "C" fn bridge_lists_cause(offsets: &[u32], neighbors: &[u32]) -> u32
+    ensures { λ r. ⌜ r ≡ listsCause (now (offsets .entry)) (now (neighbors .entry)) ⌝ }
+{
+    links::lists_cause(offsets, neighbors)
 }
