@@ -26,7 +26,7 @@ fn edge(random: &mut Random) -> u64 {
         0 => random.pick(&ends),
         1 => u64::MAX - random.below(3),
         2 => random.below(600),
-        _ => random.next() >> random.below(64),
+        _ => random.draw() >> random.below(64),
     }
 }
 

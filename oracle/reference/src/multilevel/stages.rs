@@ -36,7 +36,7 @@ pub fn coarsen_once_cached(rows: &[Vec<usize>], weights: &[usize]) -> Coarsened 
 }
 
 pub fn farthest_seeds(rows: &[Vec<usize>], ranks: RankId) -> Result<Vec<usize>, u32> {
-    super::farthest_seeds(rows, ranks).map_err(|e| number(e))
+    super::farthest_seeds(rows, ranks).map_err(number)
 }
 
 /// Growth: the owners and the restarts, or 6, 7 or 8.
@@ -49,7 +49,7 @@ pub fn weighted_multisource_partition(
     let matrix = super::matrix_from_adjacency(rows).expect("rows make a matrix");
     super::weighted_multisource_partition(&matrix, weights, ranks, imbalance_per_mille)
         .map(|(assignment, restarts)| (assignment.owners().to_vec(), restarts))
-        .map_err(|e| number(e))
+        .map_err(number)
 }
 
 /// Moves: the owners and the number of moves, or 9.
@@ -65,7 +65,7 @@ pub fn refine_by_cut(
     let mut assignment = PartitionAssignment::untested(ranks, owners.to_vec());
     super::refine_by_cut(&matrix, weights, &mut assignment, imbalance_per_mille, passes)
         .map(|moves| (assignment.owners().to_vec(), moves))
-        .map_err(|e| number(e))
+        .map_err(number)
 }
 
 /// Swaps: the owners and the number of swaps.
@@ -80,7 +80,7 @@ pub fn refine_fine_pair_swaps(
     let mut assignment = PartitionAssignment::untested(ranks, owners.to_vec());
     super::refine_fine_pair_swaps(&matrix, &mut assignment, imbalance_per_mille, passes)
         .map(|swaps| (assignment.owners().to_vec(), swaps))
-        .map_err(|e| number(e))
+        .map_err(number)
 }
 
 /// Of a coarse level a rank count too great is the 7 of too few groups.
