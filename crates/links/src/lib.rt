@@ -9,3 +9,4 @@ pub use owners::Assignment;
 pub use owners::Count;
 pub use owners::Owner;
 pub use parts::index;
+pub use parts::wide;

@@ -6,3 +6,9 @@ pub fn index(x: u32) -> usize
 {
     x as usize
 }
+
+pub fn wide(x: u32) -> u64
+    ensures { λ r. ⌜ r ≡ x ⌝ }
+{
+    x as u64
+}

@@ -1,1 +1,5 @@
 // The driver: rule 8 of document 01, over the promises of links and stages.
+mod file;
+
+pub use file::Read;
+pub use file::Sizes;
