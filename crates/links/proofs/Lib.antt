@@ -3,3 +3,5 @@ pub mod PartLaws
 pub mod BestLaws
 pub mod SoundLaws
 pub mod RowLaws
+pub mod RangeLaws
+pub mod PackLaws

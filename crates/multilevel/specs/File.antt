@@ -6,7 +6,7 @@ use mathlib.Core.List.{List, [], _∷_, _++_, map}
 use lib.ListN.{length, take, drop}
 use lib.Dec.{ltb, eqb}
 use Rattle.links.specs.Lists.{at, filter, any, all, range, concatMap, above}
-use Rattle.links.specs.Graph.{rowsOf, SoundLists}
+use Rattle.links.specs.Graph.{rowsOf, offsetsFrom, packed, SoundLists}
 use Rattle.multilevel.specs.declared.file.Sizes.{Sizes}
 use Rattle.multilevel.specs.declared.file.Read.{Read}
 use Rattle.multilevel.specs.declared.file.Read.the-variants.{Site, Refused}
@@ -86,16 +86,11 @@ fileRow b v = filter (linkedIn b v) (range 0 (vertexCountOf b))
 unfoldable pub fileRows : List ℕ → List (List ℕ)
 fileRows b = map (fileRow b) (range 0 (vertexCountOf b))
 
--- the rows' starts, from a on, and the last one's end
-abbrev pub offsetsFrom : ℕ → List (List ℕ) → List ℕ
-offsetsFrom a [] = a ∷ []
-offsetsFrom a (r ∷ rs) = a ∷ offsetsFrom (a + length r) rs
-
 abbrev pub fileOffsets : List ℕ → List ℕ
 fileOffsets b = offsetsFrom 0 (fileRows b)
 
 abbrev pub fileNeighbors : List ℕ → List ℕ
-fileNeighbors b = concatMap (λ r. r) (fileRows b)
+fileNeighbors b = packed (fileRows b)
 
 -- ---- what the reader tells and writes
 
