@@ -91,7 +91,7 @@ rising-filter (suc n) i (x ∷ xs) r a = split (all (ltb x) xs)
     rw q (ap (λ (l : List ℕ). i ∷ l) (same ∙ rising-filter n (suc i) xs (rw h at r) rest) ∙ ap (λ (z : ℕ). z ∷ xs) e))
     (λ q.
     let out : elem i (x ∷ xs) ≡ false = head-out i x xs (lower q) h in
-    let rest : All (λ y. (suc i ≤ y) × (y < suc i + n)) (x ∷ xs) = (( lower q, omega (arith, a .0 .1)), above xs (a .1) later) in
+    let rest : All (λ y. (suc i ≤ y) × (y < suc i + n)) (x ∷ xs) = ((lower q, omega (arith, a .0 .1)), above xs (a .1) later) in
     rw out (rising-filter n (suc i) (x ∷ xs) r rest)))
     (λ h. absurd (false≢true (rw h at r)))
   where

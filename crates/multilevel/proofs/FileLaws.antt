@@ -7,9 +7,9 @@ use native.Mathlib.Omega.{arith}
 use native.Mathlib.Numerals.{add-one}
 use lib.ListN.{length}
 use lib.Dec.{ltb, eqb}
-use borrow.Author.Tests.{ltb-false, lt-ltb, le-ltb, eq-eqb, ne-eqb}
+use borrow.Author.Tests.{ltb-false, eqb-true, lt-ltb, le-ltb, eq-eqb, ne-eqb}
 use Rattle.links.specs.Lists.{at, all, range}
-use Rattle.links.proofs.ListLaws.{or-l, or-r}
+use Rattle.links.proofs.ListLaws.{split, and-l, and-r, or-l, or-r}
 use Rattle.multilevel.specs.File.{number, lowEnd, highEnd, linkBefore, goodLink, goodLinks, vertexCountOf, linkCountOf, overProgramLimits, fileCause, Sized}
 
 module _ (b : List ℕ) (i j x y : ℕ) (ex : x ≡ lowEnd b i) (ey : y ≡ lowEnd b j) where
@@ -89,3 +89,37 @@ module _ (b : List ℕ) where
             few = omega (arith, ltb-false 128 (linkCountOf b) (or-r (ltb 64 (number b 0)) (ltb 128 (number b 1)) (or-l (ltb 64 (number b 0) || ltb 128 (number b 1)) (ltb 8 (number b 2)) (or-l (ltb 64 (number b 0) || ltb 128 (number b 1) || ltb 8 (number b 2)) (ltb 12 (number b 3)) (sym k)))));
             bytes = l;
           }
+
+-- ---- what the check's 0 is worth
+
+pub record Accepted (b : List ℕ) : Type 0 where
+  pub long : 28 ≤ length b
+  pub vertices : vertexCountOf b ≤ 64
+  pub sized : Sized b (linkCountOf b)
+  pub links : goodLinks b ≡ true
+
+limits-vertices : (b : List ℕ) → overProgramLimits b ≡ false → vertexCountOf b ≤ 64
+unfolding overProgramLimits
+limits-vertices b q =
+    ltb-false 64 (number b 0)
+    (or-l (ltb 64 (number b 0)) (ltb 128 (number b 1))
+    (or-l (ltb 64 (number b 0) || ltb 128 (number b 1)) (ltb 8 (number b 2))
+    (or-l (ltb 64 (number b 0) || ltb 128 (number b 1) || ltb 8 (number b 2)) (ltb 12 (number b 3)) q)))
+
+pub accepted : (b : List ℕ) → fileCause b ≡ 0 → Accepted b
+unfolding fileCause
+accepted b z = split (ltb (length b) 28)
+    (λ p. let q : _≡_ {A = ℕ} 10 0 = rw p at z in absurd (omega arith))
+    (λ p. split (overProgramLimits b)
+    (λ q. let r : _≡_ {A = ℕ} 3 0 = rw (p, q) at z in absurd (omega arith))
+    (λ q. split (eqb (length b) (28 + 8 * linkCountOf b) && goodLinks b)
+    (λ r.
+    let h = ltb-false (length b) 28 p in
+    let l = eqb-true (length b) (28 + 8 * linkCountOf b) (and-l (eqb (length b) (28 + 8 * linkCountOf b)) (goodLinks b) r) in
+    record {
+      long = h;
+      vertices = limits-vertices b q;
+      sized = file-sized b h (sym q) (linkCountOf b) refl l;
+      links = and-r (eqb (length b) (28 + 8 * linkCountOf b)) (goodLinks b) r;
+    })
+    (λ r. let s : _≡_ {A = ℕ} 10 0 = rw (p, q, r) at z in absurd (omega arith))))

@@ -106,7 +106,7 @@ module _ (b : List ℕ) where
     abbrev Was : ℕ → ℕ → ℕ → Type 0
     Was v i u = (j : ℕ) × (j < i) × Touch j v u
 
-    row-more : (v i : ℕ) → rowUpTo b v (suc i) ≡ rowUpTo b v i ++ otherEnd b v i
+    pub row-more : (v i : ℕ) → rowUpTo b v (suc i) ≡ rowUpTo b v i ++ otherEnd b v i
     unfolding rowUpTo
     row-more v i =
         ap (concatMap (otherEnd b v)) (range-snoc 0 i i (omega arith))
@@ -195,7 +195,7 @@ module _ (b : List ℕ) where
 
     -- ---- sound rows
 
-    row-of : (v : ℕ) → v < vertexCountOf b → row (fileRows b) v ≡ fileRow b v
+    pub row-of : (v : ℕ) → v < vertexCountOf b → row (fileRows b) v ≡ fileRow b v
     unfolding fileRows
     row-of v h = getD-map-range (fileRow b) 0 (vertexCountOf b) v h ∙ ap (fileRow b) (zero-add v)
 
@@ -273,6 +273,7 @@ module _ (b : List ℕ) where
         total-ext 0 n (λ v. length (otherEnd b v i)) (λ v. cond (eqb v (lowEnd b i)) 1 0 + cond (eqb v (highEnd b i)) 1 0) (λ v p q. other-count v i h)
         ∙ total-add 0 n (λ v. cond (eqb v (lowEnd b i)) 1 0) (λ v. cond (eqb v (highEnd b i)) 1 0)
         ∙ omega (arith, total-point 0 n (lowEnd b i) (λ v. 1) (omega arith) (omega arith), total-point 0 n (highEnd b i) (λ v. 1) (omega arith) (omega arith))
+
     entries : (i : ℕ) → i ≤ linkCountOf b → total 0 (vertexCountOf b) (λ v. length (rowUpTo b v i)) ≡ 2 * i
     unfolding rowUpTo
     entries zero h = total-zero 0 (vertexCountOf b) (λ v. length (rowUpTo b v 0)) (λ v p q. refl)

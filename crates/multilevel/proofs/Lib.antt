@@ -1,2 +1,4 @@
 pub mod FileLaws
 pub mod FileRowLaws
+pub mod FileWriteLaws
+pub mod FileReadLaws

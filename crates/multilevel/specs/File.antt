@@ -3,7 +3,8 @@ use Prim.Native.Nat.{ℕ, _+_, _-_, _*_, _≤_, _<_}
 use mathlib.Core.Path.{_≡_}
 use mathlib.Core.Bool.{Bool, not, _&&_, _||_, cond}
 use mathlib.Core.List.{List, [], _∷_, _++_, map}
-use lib.ListN.{length, take, drop}
+use lib.ListN.{length, drop}
+use lib.Seq.{sets}
 use lib.Dec.{ltb, eqb}
 use Rattle.links.specs.Lists.{at, filter, any, all, range, concatMap, above}
 use Rattle.links.specs.Graph.{rowsOf, offsetsFrom, packed, SoundLists}
@@ -144,10 +145,10 @@ otherEnd b v i = cond (eqb (lowEnd b i) v) (highEnd b i ∷ []) (cond (eqb (high
 unfoldable pub rowUpTo : List ℕ → ℕ → ℕ → List ℕ
 rowUpTo b v i = concatMap (otherEnd b v) (range 0 i)
 
--- a row of an accepted file is written from `from` on
-pub record RowWritten (b : List ℕ) (v from : ℕ) (neighbors neighbors′ : List ℕ) (r : ℕ) : Type 0 where
-  pub end : r ≡ from + length (fileRow b v)
-  pub is : neighbors′ ≡ take from neighbors ++ (fileRow b v ++ drop (from + length (fileRow b v)) neighbors)
+-- what a slice holds once a list was written from `from` on, and where that list ended
+pub record Written (xs : List ℕ) (from : ℕ) (neighbors neighbors′ : List ℕ) (end : ℕ) : Type 0 where
+  pub end-is : end ≡ from + length xs
+  pub is : neighbors′ ≡ sets neighbors from xs
 
 pub record RowsWritten (b offsets neighbors offsets′ neighbors′ : List ℕ) : Type 0 where
   pub offsets-are : offsets′ ≡ fileOffsets b ++ drop (vertexCountOf b + 1) offsets

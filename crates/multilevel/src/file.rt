@@ -5,7 +5,7 @@ ghost use lib.Dec.{eqb};
 ghost use Prim.Native.Nat.{ℕ, _+_, _-_, _*_, _≤_, _<_};
 ghost use lib.ListN.{length};
 ghost use Rattle.links.specs.Lists.{at};
-ghost use Rattle.multilevel.specs.File.{number, sizesOf, vertexCountOf, linkCountOf, lowEnd, highEnd, overProgramLimits, linkBefore, goodLink, goodLinks, fileCause, fileRow, FileRead, Sized, RowWritten, RowsWritten};
+ghost use Rattle.multilevel.specs.File.{number, sizesOf, vertexCountOf, linkCountOf, lowEnd, highEnd, overProgramLimits, linkBefore, goodLink, goodLinks, fileCause, readerCause, fileRow, otherEnd, FileRead, Sized, Written, RowsWritten};
 use links::AbtmMultilevelOptions;
 use links::index;
 use links::wide;
@@ -154,4 +154,70 @@ pub fn link_file_cause(b: &[u8]) -> u32
         return 0;
     }
     10
+}
+
+// v's other end at link i, if v is an end of it, goes to `at`: the next place.
+fn write_end(b: &[u8], e: usize, i: usize, v: u32, neighbors: &mut [u32], at: usize) -> usize
+    requires { ⌜ Sized (now b) e × (i < e) × (at + length (otherEnd (now b) v i) ≤ length (now neighbors)) ⌝ }
+    ensures { λ r. ⌜ Written (otherEnd (now (b .entry)) v i) at (now (neighbors .entry)) (now (neighbors .exit)) r ⌝ }
+{
+    let low = low_end(b, e, i);
+    let high = high_end(b, e, i);
+    if low == v {
+        neighbors[at] = high;
+        return at + 1;
+    }
+    if high == v {
+        neighbors[at] = low;
+        return at + 1;
+    }
+    at
+}
+
+// v's row, link by link: those of lower number come first, then those of higher number, both rising.
+fn write_row(b: &[u8], e: usize, v: u32, neighbors: &mut [u32], from: usize) -> usize
+    requires { ⌜ Sized (now b) e × (goodLinks (now b) ≡ true) × (from + length (fileRow (now b) v) ≤ length (now neighbors)) ⌝ }
+    ensures { λ r. ⌜ Written (fileRow (now (b .entry)) v) from (now (neighbors .entry)) (now (neighbors .exit)) r ⌝ }
+{
+    let mut at = from;
+    let mut i: usize = 0;
+    while i < e {
+        at = write_end(b, e, i, v, neighbors, at);
+        i += 1;
+    }
+    at
+}
+
+fn write_rows(b: &[u8], e: usize, n: usize, offsets: &mut [u32], neighbors: &mut [u32])
+    requires { ⌜ Sized (now b) e × (goodLinks (now b) ≡ true) × (n ≡ vertexCountOf (now b)) × (n ≤ 64) × (n + 1 ≤ length (now offsets)) × (2 * e ≤ length (now neighbors)) ⌝ }
+    ensures { λ _. ⌜ RowsWritten (now (b .entry)) (now (offsets .entry)) (now (neighbors .entry)) (now (offsets .exit)) (now (neighbors .exit)) ⌝ }
+{
+    let mut at: usize = 0;
+    let mut v: usize = 0;
+    offsets[0] = 0;
+    while v < n {
+        at = write_row(b, e, v as u32, neighbors, at);
+        v += 1;
+        offsets[v] = at as u32;
+    }
+}
+
+// The reader: the sizes and options, and n + 1 offsets and 2e neighbors written; or 10, 3 or 5 and nothing written.
+pub fn read_link_file(b: &[u8], offsets: &mut [u32], neighbors: &mut [u32]) -> Read
+    ensures { λ r. ⌜ FileRead (now (b .entry)) (now (offsets .entry)) (now (neighbors .entry)) (now (offsets .exit)) (now (neighbors .exit)) r ⌝ }
+{
+    let cause = link_file_cause(b);
+    if cause != 0 {
+        return Read::Refused(cause);
+    }
+    let n = index(number_at(b, 0));
+    let e = index(number_at(b, 1));
+    if offsets.len() < n + 1 {
+        return Read::Refused(5);
+    }
+    if neighbors.len() < 2 * e {
+        return Read::Refused(5);
+    }
+    write_rows(b, e, n, offsets, neighbors);
+    Read::Site(sizes_of(b))
 }

@@ -3,3 +3,5 @@ mod file;
 
 pub use file::Read;
 pub use file::Sizes;
+pub use file::link_file_cause;
+pub use file::read_link_file;

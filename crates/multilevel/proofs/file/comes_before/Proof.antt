@@ -2,36 +2,25 @@ use Rattle.multilevel.proofs.FileLaws.{before-lower, before-same, befor
 use borrow.Author.Needs.{needs}
 use Rattle.multilevel.proofs.file.comes_before.Statement.{statement}
 use Rattle.multilevel.proofs.file.comes_before.Tie as tie
-use Rattle.multilevel.proofs.file.comes_before.Reads as reads
-use Rattle.multilevel.proofs.file.comes_before.Lts as lts
-use Rattle.multilevel.proofs.file.high_end.Reads as high-end-reads
-use Rattle.multilevel.proofs.file.low_end.Reads as low-end-reads
 
--- src/file.rt:95:9
 low-end-requires : tie.Need-low-end-requires
 low-end-requires c κs = search needs
 
--- src/file.rt:96:9
 low-end-requires-2 : tie.Need-low-end-requires-2
 low-end-requires-2 c κs = search needs
 
--- src/file.rt:98:9
 returns : tie.Need-returns
 returns c = before-lower (c .before .before .before .before .args .b .now) (c .before .before .before .before .args .i) (c .before .before .before .before .args .j) _ _ (c .before .before .low-end .ensures) (c .before .low-end2 .ensures) (c .if1 .taken)
 
--- src/file.rt:101:16
 high-end-requires : tie.Need-high-end-requires
 high-end-requires c κs = search needs
 
--- src/file.rt:101:36
 high-end-requires-2 : tie.Need-high-end-requires-2
 high-end-requires-2 c κs = search needs
 
--- src/file.rt:101:9
 returns-2 : tie.Need-returns-2
 returns-2 c = before-same (c .before .before .before .before .before .before .before .args .b .now) (c .before .before .before .before .before .before .before .args .i) (c .before .before .before .before .before .before .before .args .j) _ _ (c .before .before .before .before .before .low-end .ensures) (c .before .before .before .before .low-end2 .ensures) (c .before .before .if2 .taken) _ _ (c .before .high-end .ensures) (c .high-end2 .ensures)
 
--- src/file.rt:91:1
 returns-3 : tie.Need-returns-3
 returns-3 c = before-higher (c .before .before .before .before .before .args .b .now) (c .before .before .before .before .before .args .i) (c .before .before .before .before .before .args .j) _ _ (c .before .before .before .low-end .ensures) (c .before .before .low-end2 .ensures) (c .before .if1 .left) (c .if2 .left)
 

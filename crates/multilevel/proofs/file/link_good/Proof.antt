@@ -2,41 +2,28 @@ use Rattle.multilevel.proofs.FileLaws.{link-turned, link-beyond, link-f
 use borrow.Author.Needs.{needs}
 use Rattle.multilevel.proofs.file.link_good.Statement.{statement}
 use Rattle.multilevel.proofs.file.link_good.Tie as tie
-use Rattle.multilevel.proofs.file.link_good.Reads as reads
-use Rattle.multilevel.proofs.file.link_good.Lts as lts
-use Rattle.multilevel.proofs.file.comes_before.Reads as comes-before-reads
-use Rattle.multilevel.proofs.file.high_end.Reads as high-end-reads
-use Rattle.multilevel.proofs.file.low_end.Reads as low-end-reads
 
--- src/file.rt:110:9
 low-end-requires : tie.Need-low-end-requires
 low-end-requires c κs = search needs
 
--- src/file.rt:111:9
 high-end-requires : tie.Need-high-end-requires
 high-end-requires c κs = search needs
 
--- src/file.rt:113:9
 returns : tie.Need-returns
 returns c = link-turned (c .before .before .before .before .args .b .now) (c .before .before .before .before .args .i) (c .before .before .before .before .args .vertices) _ _ (c .before .before .before .before .pre .2) (c .before .before .low-end .ensures) (c .before .high-end .ensures) (c .if1 .taken)
 
--- src/file.rt:116:9
 returns-2 : tie.Need-returns-2
 returns-2 c = link-beyond (c .before .before .before .before .before .args .b .now) (c .before .before .before .before .before .args .i) (c .before .before .before .before .before .args .vertices) _ _ (c .before .before .before .before .before .pre .2) (c .before .before .before .low-end .ensures) (c .before .before .high-end .ensures) (c .before .if1 .left) (c .if2 .taken)
 
--- src/file.rt:119:9
 returns-3 : tie.Need-returns-3
 returns-3 c = link-first (c .before .before .before .before .before .before .args .b .now) (c .before .before .before .before .before .before .args .i) (c .before .before .before .before .before .before .args .vertices) _ _ (c .before .before .before .before .before .before .pre .2) (c .before .before .before .before .low-end .ensures) (c .before .before .before .high-end .ensures) (c .before .before .if1 .left) (c .before .if2 .left) (c .if3 .taken)
 
--- src/file.rt:121:24
 sub-comes-before : tie.Need-sub-comes-before
 sub-comes-before c = search needs
 
--- src/file.rt:121:5
 comes-before-requires : tie.Need-comes-before-requires
 comes-before-requires c κs = search needs
 
--- src/file.rt:106:1
 returns-4 : tie.Need-returns-4
 returns-4 c = link-later (c .before .before .before .before .before .before .before .args .b .now) (c .before .before .before .before .before .before .before .args .i) (c .before .before .before .before .before .before .before .args .vertices) _ _ (c .before .before .before .before .before .before .before .pre .2) (c .before .before .before .before .before .low-end .ensures) (c .before .before .before .before .high-end .ensures) (c .before .before .before .if1 .left) (c .before .before .if2 .left) (c .before .if3 .left) _ (c .comes-before .ensures)
 

@@ -2,19 +2,13 @@ use Rattle.multilevel.specs.File.{lowEnd}
 use borrow.Author.Needs.{needs}
 use Rattle.multilevel.proofs.file.low_end.Statement.{statement}
 use Rattle.multilevel.proofs.file.low_end.Tie as tie
-use Rattle.multilevel.proofs.file.low_end.Reads as reads
-use Rattle.multilevel.proofs.file.low_end.Lts as lts
-use Rattle.multilevel.proofs.file.number_at.Reads as number-at-reads
 
--- src/file.rt:80:18
 add-number-at : tie.Need-add-number-at
 add-number-at c = search needs
 
--- src/file.rt:80:5
 number-at-requires : tie.Need-number-at-requires
 number-at-requires c κs = search needs
 
--- src/file.rt:76:1
 returns : tie.Need-returns
 unfolding lowEnd
 returns c = c .number-at .ensures

@@ -3,67 +3,49 @@ use native.Mathlib.Omega.{arith}
 use borrow.Author.Needs.{needs}
 use Rattle.multilevel.proofs.file.number_at.Statement.{statement}
 use Rattle.multilevel.proofs.file.number_at.Tie as tie
-use Rattle.multilevel.proofs.file.number_at.Reads as reads
-use Rattle.multilevel.proofs.file.number_at.Lts as lts
-use Rattle.multilevel.proofs.file.byte.Reads as byte-reads
 
--- src/file.rt:38:13
 mul-a : tie.Need-mul-a
 mul-a c = search needs
 
--- src/file.rt:39:5
 byte-requires : tie.Need-byte-requires
 byte-requires c κs = search needs
 
--- src/file.rt:39:32
 add-byte : tie.Need-add-byte
 add-byte c = search needs
 
--- src/file.rt:39:24
 byte-requires-2 : tie.Need-byte-requires-2
 byte-requires-2 c κs = search needs
 
--- src/file.rt:39:18
 mul-result : tie.Need-mul-result
 mul-result c = search needs
 
--- src/file.rt:39:5
 add-result : tie.Need-add-result
 add-result c = search needs
 
--- src/file.rt:39:57
 add-byte-2 : tie.Need-add-byte-2
 add-byte-2 c = search needs
 
--- src/file.rt:39:49
 byte-requires-3 : tie.Need-byte-requires-3
 byte-requires-3 c κs = search needs
 
--- src/file.rt:39:41
 mul-result-2 : tie.Need-mul-result-2
 mul-result-2 c = search needs
 
--- src/file.rt:39:5
 add-result-2 : tie.Need-add-result-2
 add-result-2 c = search needs
 
--- src/file.rt:39:85
 add-byte-3 : tie.Need-add-byte-3
 add-byte-3 c = search needs
 
--- src/file.rt:39:77
 byte-requires-4 : tie.Need-byte-requires-4
 byte-requires-4 c κs = search needs
 
--- src/file.rt:39:66
 mul-result-3 : tie.Need-mul-result-3
 mul-result-3 c = search needs
 
--- src/file.rt:39:5
 add-result-3 : tie.Need-add-result-3
 add-result-3 c = search needs
 
--- src/file.rt:34:1
 returns : tie.Need-returns
 unfolding number
 returns c = omega (arith, c .before .before .before .byte .ensures .0, c .before .before .byte2 .ensures .0, c .before .byte3 .ensures .0, c .byte4 .ensures .0)

@@ -4,42 +4,31 @@ use Rattle.multilevel.specs.File.{number, overProgramLimits}
 use borrow.Author.Needs.{needs}
 use Rattle.multilevel.proofs.file.over_limits.Statement.{statement}
 use Rattle.multilevel.proofs.file.over_limits.Tie as tie
-use Rattle.multilevel.proofs.file.over_limits.Reads as reads
-use Rattle.multilevel.proofs.file.over_limits.Lts as lts
-use Rattle.multilevel.proofs.file.number_at.Reads as number-at-reads
 
--- src/file.rt:64:8
 number-at-requires : tie.Need-number-at-requires
 number-at-requires c κs = search needs
 
--- src/file.rt:65:9
 returns : tie.Need-returns
 unfolding overProgramLimits
 returns c = rw (lt-ltb 64 (number (c .before .before .before .args .b .now) 0) (omega (arith, c .before .number-at .ensures)))
 
--- src/file.rt:67:8
 number-at-requires-2 : tie.Need-number-at-requires-2
 number-at-requires-2 c κs = search needs
 
--- src/file.rt:68:9
 returns-2 : tie.Need-returns-2
 unfolding overProgramLimits
 returns-2 c = rw (le-ltb 64 (number (c .before .before .before .before .before .args .b .now) 0) (omega (arith, c .before .before .before .number-at .ensures)), lt-ltb 128 (number (c .before .before .before .before .before .args .b .now) 1) (omega (arith, c .before .number-at2 .ensures)))
 
--- src/file.rt:70:8
 number-at-requires-3 : tie.Need-number-at-requires-3
 number-at-requires-3 c κs = search needs
 
--- src/file.rt:71:9
 returns-3 : tie.Need-returns-3
 unfolding overProgramLimits
 returns-3 c = rw (le-ltb 64 (number (c .before .before .before .before .before .before .before .args .b .now) 0) (omega (arith, c .before .before .before .before .before .number-at .ensures)), le-ltb 128 (number (c .before .before .before .before .before .before .before .args .b .now) 1) (omega (arith, c .before .before .before .number-at2 .ensures)), lt-ltb 8 (number (c .before .before .before .before .before .before .before .args .b .now) 2) (omega (arith, c .before .number-at3 .ensures)))
 
--- src/file.rt:73:5
 number-at-requires-4 : tie.Need-number-at-requires-4
 number-at-requires-4 c κs = search needs
 
--- src/file.rt:60:1
 returns-4 : tie.Need-returns-4
 unfolding overProgramLimits
 returns-4 c = rw (le-ltb 64 (number (c .before .before .before .before .before .before .before .before .args .b .now) 0) (omega (arith, c .before .before .before .before .before .before .number-at .ensures)), le-ltb 128 (number (c .before .before .before .before .before .before .before .before .args .b .now) 1) (omega (arith, c .before .before .before .before .number-at2 .ensures)), le-ltb 8 (number (c .before .before .before .before .before .before .before .before .args .b .now) 2) (omega (arith, c .before .before .number-at3 .ensures)), c .number-at4 .ensures)
