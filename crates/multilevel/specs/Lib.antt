@@ -2,3 +2,4 @@ pub mod Causes
 pub mod Division
 pub mod Demand3
 pub mod Sites
+pub mod File
