@@ -149,7 +149,8 @@ fn mirrored_row(offsets: &[u32], neighbors: &[u32], v: usize) -> bool
     let row = neighbors_of(offsets, neighbors, v as u64);
     let mut i = 0;
     while i < row.len() {
-        let other = neighbors_of(offsets, neighbors, wide(row[i]));
+        let u = wide(row[i]);
+        let other = neighbors_of(offsets, neighbors, u);
         if !holds(other, v) {
             return false;
         }
