@@ -40,6 +40,7 @@ cap-share total k t h j =
     let product = total * (1000 + t) in
     rw (a, b) (div-mono (saturating product) product (1000 * k) (omega arith) (omega arith))
 
+-- the finest weights add up to the number of vertices
 pub sum-ones : (n : ℕ) → sum (replicate n 1) ≡ n
 sum-ones zero = refl
 sum-ones (suc n) = omega (arith, sum-ones n)
@@ -84,7 +85,8 @@ solved c g =
     let rows = siteRows c in
     let passes = c .options .«refinement_passes» in
     let small : length rows < unassigned = omega (arith, length-rows (c .offsets) (c .neighbors), g .few-vertices) in
-    let chain = chained (c .options .«max_levels») (stopSize (c .options) (c .ranks)) rows (finestWeights rows) (g .lists .sound) small (length-replicate (length rows) 1) in
+    let weighed : length (finestWeights rows) ≡ length rows = length-replicate (length rows) 1 in
+    let chain = chained (c .options .«max_levels») (stopSize (c .options) (c .ranks)) rows (finestWeights rows) (g .lists .sound) small weighed in
     solve-solved (balanceOf c) passes (few-ranks c g) (keptSteps c) (swapPasses passes) rows (finestWeights rows) (g .lists .sound) chain
 
 divided-of
