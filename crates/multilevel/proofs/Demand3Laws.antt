@@ -121,13 +121,13 @@ shares-of c g t sol owners s e =
     let sw = swapPasses (c .options .«refinement_passes») in
     let a = divided-of (eqb (t .refusal) 0) (t .owners) owners s (statsOf rows k (keptSteps c) t) (t .refusal) e in
     let d = sol .done (eqb-true (t .refusal) 0 (a .0)) in
-    let share : balanceOf c .cap ≤ vertexCount (c .offsets) * (1000 + per) / (1000 * k) =
+    let fair-share : balanceOf c .cap ≤ vertexCount (c .offsets) * (1000 + per) / (1000 * k) =
     subst (λ (x : ℕ). balanceOf c .cap ≤ x * (1000 + per) / (1000 * k)) (sum-ones (length rows) ∙ n)
     (cap-share (sum (finestWeights rows)) k per (g .some-ranks) (g .tolerance)) in
     rw (a .1, a .2) (record {
       size = size-owners (balanceOf c) rows sw (keptSteps c) t d ∙ n;
       least = λ r h. omega (arith, same-owned (balanceOf c) rows sw (keptSteps c) t d r, none-empty k (moved (d .last)) (d .checked) r h);
-      most = λ r h. omega (arith, within-cap (balanceOf c) rows sw (keptSteps c) t d r h, share);
+      most = λ r h. omega (arith, within-cap (balanceOf c) rows sw (keptSteps c) t d r h, fair-share);
       whole = d .whole;
       finest = (d .coarser, d .last, d .levels-are, d .rows-are, d .owners-are);
       moves = refl;
