@@ -6,3 +6,4 @@ pub mod FileLaws
 pub mod FileRowLaws
 pub mod FileWriteLaws
 pub mod FileReadLaws
+pub mod DriverLaws

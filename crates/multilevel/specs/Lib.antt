@@ -3,3 +3,5 @@ pub mod Division
 pub mod Demand3
 pub mod Sites
 pub mod File
+pub mod Contract
+pub mod Driver

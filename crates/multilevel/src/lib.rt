@@ -1,6 +1,8 @@
 // The driver: rule 8 of document 01, over the promises of links and stages.
+mod driver;
 mod file;
 
+pub use driver::Answer;
 pub use file::Read;
 pub use file::Sizes;
 pub use file::link_file_cause;
