@@ -53,6 +53,10 @@ unfolding stepCount
 count-append [] ys = omega arith
 count-append (x ∷ xs) ys = omega (arith, count-append xs ys)
 
+pub count-none : stepCount [] ≡ 0
+unfolding stepCount
+count-none = refl
+
 count-one : (l : Level) → stepCount (l ∷ []) ≡ length (l .moves) + length (l .swaps)
 unfolding stepCount
 count-one l = omega (arith, length-append (l .moves) (l .swaps))
@@ -185,13 +189,6 @@ module _ (b : Balance) (passes : ℕ) (rows : List (List ℕ)) (ws : List ℕ) w
 
 sat-small : (x : ℕ) → x ≤ u64Max → saturating x ≡ x
 sat-small x h = min-eq-left h
-
--- the counts of a level and those coarser than it, of which `left` may be made: none comes near 2^64
-pub record Small (left : ℕ) (cs : List Coarse) (t : Trace) : Type 0 where
-  pub levels : length cs ≤ left
-  pub pairs : sum (map (λ c. c .pairs) cs) ≤ left * 16384
-  pub singletons : sum (map (λ c. c .singletons) cs) ≤ left * 16384
-  pub steps : stepCount (t .levels) ≤ (left + 1) * 131072
 
 pub stats-coarsest
     : (rows : List (List ℕ)) (t : Trace) (restarts m : ℕ)

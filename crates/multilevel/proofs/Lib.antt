@@ -7,3 +7,5 @@ pub mod FileRowLaws
 pub mod FileWriteLaws
 pub mod FileReadLaws
 pub mod DriverLaws
+pub mod SolveLaws
+pub mod FinishLaws

@@ -1,7 +1,10 @@
 -- The division as the driver meets it, level by level. Assumes nothing.
-use Prim.Native.Nat.{ℕ}
+use Prim.Native.Nat.{ℕ, _+_, _*_, _≤_}
+use mathlib.Core.Path.{_≡_}
+use mathlib.Core.Bool.{cond}
 use mathlib.Core.List.{List, [], _∷_, map}
 use lib.ListN.{length}
+use lib.Dec.{eqb}
 use Rattle.links.specs.Lists.{foldl, sum}
 use Rattle.links.specs.Loads.{Balance}
 use Rattle.links.specs.declared.options.AbtmMultilevelStats.{AbtmMultilevelStats}
@@ -9,6 +12,8 @@ use Rattle.stages.specs.Coarsen.{Coarse}
 use Rattle.stages.specs.Growth.{restartCount}
 use Rattle.stages.specs.Moves.{Step, after, refineByCut}
 use Rattle.stages.specs.Swaps.{refineFinePairSwaps}
+use Rattle.multilevel.specs.declared.driver.Answer.{Answer}
+use Rattle.multilevel.specs.declared.driver.Answer.the-variants.{Divided, Refused}
 use Rattle.multilevel.specs.Division.{Level, Trace, solve, stepsOf, coarsestRows, listLength}
 
 -- a level and those coarser than it, before any swap
@@ -42,3 +47,22 @@ statsSoFar rows cs t =
       «final_cut_nnz» = 0;
       «final_communication_volume» = 0;
     }
+
+-- ---- what a level tells
+
+-- the answer of a level: its stats so far, or the refusal
+abbrev pub answerFor : ℕ → AbtmMultilevelStats → Answer
+answerFor refusal s = cond (eqb refusal 0) (Divided s) (Refused refusal)
+
+-- the counts of a level and those coarser than it, of which `left` may be made: none comes near 2^64
+pub record Small (left : ℕ) (cs : List Coarse) (t : Trace) : Type 0 where
+  pub levels : length cs ≤ left
+  pub pairs : sum (map (λ c. c .pairs) cs) ≤ left * 16384
+  pub singletons : sum (map (λ c. c .singletons) cs) ≤ left * 16384
+  pub steps : stepCount (t .levels) ≤ (left + 1) * 131072
+
+-- a level with these lists, once its moves are made: its answer, its owners, and its counts
+pub record Told (b : Balance) (passes : ℕ) (rows : List (List ℕ)) (weights : List ℕ) (cs : List Coarse) (left : ℕ) (owners : List ℕ) (a : Answer) : Type 0 where
+  pub answer-is : a ≡ answerFor (solved b passes rows weights cs .refusal) (statsSoFar rows cs (solved b passes rows weights cs))
+  pub owners-are : solved b passes rows weights cs .refusal ≡ 0 → owners ≡ solved b passes rows weights cs .owners
+  pub small : solved b passes rows weights cs .refusal ≡ 0 → Small left cs (solved b passes rows weights cs)
