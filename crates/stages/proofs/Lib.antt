@@ -3,3 +3,4 @@ pub mod StepLaws
 pub mod GrowthLaws
 pub mod LoadLaws
 pub mod GroupingLaws
+pub mod RankLaws
