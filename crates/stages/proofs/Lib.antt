@@ -1,0 +1,9 @@
+pub mod LevelLaws
+pub mod CoarsenOrderLaws
+pub mod CoarsenChoiceLaws
+pub mod CoarsenTurnLaws
+pub mod CoarsenPairLaws
+pub mod CoarsenGrowLaws
+pub mod CoarsenRowLaws
+pub mod CoarsenChainLaws
+pub mod CoarsenListsLaws
