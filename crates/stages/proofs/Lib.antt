@@ -12,3 +12,4 @@ pub mod CoarsenGrowLaws
 pub mod CoarsenRowLaws
 pub mod CoarsenChainLaws
 pub mod CoarsenListsLaws
+pub mod CoarsenOnceLaws
