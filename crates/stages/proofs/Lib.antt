@@ -7,6 +7,7 @@ pub mod LevelLaws
 pub mod CoarsenOrderLaws
 pub mod CoarsenChoiceLaws
 pub mod CoarsenTurnLaws
+pub mod CoarsenMarkLaws
 pub mod CoarsenPairLaws
 pub mod CoarsenGrowLaws
 pub mod CoarsenRowLaws
