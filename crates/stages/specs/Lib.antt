@@ -4,3 +4,5 @@ pub mod Seeds
 pub mod Growth
 pub mod Moves
 pub mod Swaps
+pub mod CoarsenCode
+pub mod CoarsenParts

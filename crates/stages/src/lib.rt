@@ -1,5 +1,8 @@
 // The five stages of a division: coarsening, seeds, growth, moves, swaps (rules 3 to 7 of document 01), over one lent work slice.
+mod coarsen;
 mod level;
 
+pub use coarsen::coarsen_once_cached;
+pub use coarsen::Coarsened;
 pub use level::HierarchyLevel;
 pub use level::Limits;
