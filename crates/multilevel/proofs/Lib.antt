@@ -1,3 +1,4 @@
+pub mod CauseLaws
 pub mod LevelLaws
 pub mod DivisionLaws
 pub mod Demand3Laws
@@ -6,3 +7,5 @@ pub mod FileLaws
 pub mod FileRowLaws
 pub mod FileWriteLaws
 pub mod FileReadLaws
+pub mod RoomLaws
+pub mod LayLaws

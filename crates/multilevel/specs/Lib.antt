@@ -3,3 +3,4 @@ pub mod Division
 pub mod Demand3
 pub mod Sites
 pub mod File
+pub mod Room
