@@ -1,3 +1,4 @@
+pub mod CauseLaws
 pub mod LevelLaws
 pub mod DivisionLaws
 pub mod Demand3Laws
@@ -9,3 +10,5 @@ pub mod FileReadLaws
 pub mod DriverLaws
 pub mod SolveLaws
 pub mod FinishLaws
+pub mod RoomLaws
+pub mod LayLaws

@@ -5,3 +5,4 @@ pub mod Sites
 pub mod File
 pub mod Contract
 pub mod Driver
+pub mod Room
