@@ -1,0 +1,2 @@
+pub mod LoadSetLaws
+pub mod TallyLaws
