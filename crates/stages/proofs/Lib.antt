@@ -1,2 +1,3 @@
 pub mod LoadSetLaws
 pub mod TallyLaws
+pub mod TargetLaws
