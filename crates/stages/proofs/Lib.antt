@@ -2,3 +2,6 @@ pub mod LoadSetLaws
 pub mod TallyLaws
 pub mod TargetLaws
 pub mod MovesLaws
+pub mod CutLaws
+pub mod StepLaws
+pub mod GrowthLaws
