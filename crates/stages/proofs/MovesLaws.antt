@@ -10,11 +10,8 @@ use lib.ListN.{length, set, length-append}
 use Rattle.links.specs.Lists.{at, foldl, range, empty, option}
 use Rattle.links.specs.Loads.{Balance}
 use Rattle.links.specs.Graph.{vertices}
+use Rattle.stages.proofs.StepLaws.{foldl-append}
 use Rattle.stages.specs.Moves.{Step, move, after, Steps, repeat, destination, movePass, refineByCut}
-
-pub foldl-append : {A B : Type 0} (f : B → A → B) (b : B) (xs ys : List A) → foldl f b (xs ++ ys) ≡ foldl f (foldl f b xs) ys
-foldl-append f b [] ys = refl
-foldl-append f b (x ∷ xs) ys = foldl-append f (f b x) xs ys
 
 -- what is done is a number of steps and the owners they left; what is left, from there on, is a list of steps: the same end
 pub record Toward (owners₀ : List ℕ) (all : List Step) (owners : List ℕ) (done : ℕ) (left : List Step) : Type 0 where
@@ -64,6 +61,13 @@ module _ (b : Balance) (rows : List (List ℕ)) (weights : List ℕ) where
 
 -- ---- the passes
 
+-- what `repeat` makes of a pass and the passes after it
+abbrev stepsWith : (List ℕ → List Step) → ℕ → List ℕ → List Step → Steps
+stepsWith pass f owners ss =
+    let rest = repeat f pass (foldl after owners ss) in
+    let more : Steps = record { steps = ss ++ rest .steps; settled = rest .settled } in
+    cond (empty ss) (record { steps = []; settled = true }) more
+
 module _ (pass : List ℕ → List Step) where
   abbrev pub passesLeft : ℕ → ℕ → List ℕ → List Step
   passesLeft passes p owners = repeat (passes - p) pass owners .steps
@@ -78,12 +82,12 @@ module _ (pass : List ℕ → List Step) where
   unfolding repeat
   repeat-turn owners₀ all passes p owners done h t n =
       let e : passes - p ≡ suc (passes - (p + 1)) = omega arith in
-      go (pass owners) (rw e at t) n
+      go (pass owners) (rw (passesLeft, e) at t) n
     where
       go
           : (ss : List Step)
           → Toward owners₀ all owners done
-          (cond (empty ss) (record { steps = []; settled = true }) (record { steps = ss ++ repeat (passes - (p + 1)) pass (foldl after owners ss) .steps; settled = repeat (passes - (p + 1)) pass (foldl after owners ss) .settled }) .steps)
+          (stepsWith pass (passes - (p + 1)) owners ss .steps)
           → (length ss ≡ 0 → ⊥)
           → Toward owners₀ all (foldl after owners ss) (done + length ss) (repeat (passes - (p + 1)) pass (foldl after owners ss) .steps)
       go [] x n = absurd (n refl)
@@ -91,7 +95,7 @@ module _ (pass : List ℕ → List Step) where
           let r = repeat (passes - (p + 1)) pass (foldl after owners (s ∷ ss)) .steps in
           record {
             count = omega (arith, x .count, length-append (s ∷ ss) r);
-            end = sym (foldl-append after owners (s ∷ ss) r) ∙ x .end;
+            end = sym (foldl-append after (s ∷ ss) r owners) ∙ x .end;
           }
 
   -- a pass without a step is the last
@@ -104,12 +108,12 @@ module _ (pass : List ℕ → List Step) where
   unfolding repeat
   repeat-quiet owners₀ all passes p owners done h t n =
       let e : passes - p ≡ suc (passes - (p + 1)) = omega arith in
-      go (pass owners) (rw e at t) n
+      go (pass owners) (rw (passesLeft, e) at t) n
     where
       go
           : (ss : List Step)
           → Toward owners₀ all owners done
-          (cond (empty ss) (record { steps = []; settled = true }) (record { steps = ss ++ repeat (passes - (p + 1)) pass (foldl after owners ss) .steps; settled = repeat (passes - (p + 1)) pass (foldl after owners ss) .settled }) .steps)
+          (stepsWith pass (passes - (p + 1)) owners ss .steps)
           → length ss ≡ 0
           → Toward owners₀ all (foldl after owners ss) done []
       go [] x n = x
@@ -117,4 +121,4 @@ module _ (pass : List ℕ → List Step) where
 
   pub repeat-end : (passes p : ℕ) (owners : List ℕ) → passes ≤ p → passesLeft passes p owners ≡ []
   unfolding repeat
-  repeat-end passes p owners h = let e : passes - p ≡ 0 = omega arith in rw e
+  repeat-end passes p owners h = let e : passes - p ≡ 0 = omega arith in rw (passesLeft, e)
