@@ -3,6 +3,7 @@ pub mod TallyLaws
 pub mod TargetLaws
 pub mod MovesLaws
 pub mod MovesSliceLaws
+pub mod TallySliceLaws
 pub mod CutLaws
 pub mod StepLaws
 pub mod GrowthLaws
