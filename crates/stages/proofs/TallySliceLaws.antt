@@ -15,7 +15,7 @@ use Rattle.links.proofs.ListLaws.{split, eqb-sym, tally}
 use Rattle.links.proofs.PartLaws.{length-part, kept-set, kept-refl}
 use Rattle.stages.specs.Level.{offsetsAt, neighborsAt, rowsAt, ownersAt, Ready}
 use Rattle.stages.specs.declared.level.HierarchyLevel.{HierarchyLevel}
-use Rattle.stages.specs.MovesCode.{Ranked, Clear, Tallying, Tallied, Untouched}
+use Rattle.stages.specs.MovesCode.{Clear, Roomed, Tallied}
 use Rattle.stages.proofs.TallyLaws.{links-snoc, links-cons, links-none, links-few}
 use Rattle.stages.proofs.MovesSliceLaws.{offsets-all, neighbors-all, rows-all, row-part, row-rises, row-ends, entry-below, rows-kept, neighbors-kept, owners-kept, ready-kept, ready-by}
 
@@ -28,7 +28,7 @@ pub record ClearFrom (w₀ w : List ℕ) (l : HierarchyLevel) (tallies ranks v i
   pub kept : Kept tallies (tallies + ranks) w w₀
   pub zeros : (r : ℕ) → r < ranks → linksIn (part (neighborsAt w₀ l) i (at (offsetsAt w₀ l) (v + 1))) (ownersAt w₀ l) r ≡ 0 → at w (tallies + r) ≡ 0
 
-module _ {w₀ : List ℕ} {l : HierarchyLevel} {tallies ranks v : ℕ} (t : Tallying w₀ l tallies ranks v) where
+module _ {w₀ : List ℕ} {l : HierarchyLevel} {tallies ranks v : ℕ} (t : Roomed w₀ l tallies ranks) (vertex : v < l .vertices) where
   abbrev from : ℕ
   from = at (offsetsAt w₀ l) v
 
@@ -43,10 +43,10 @@ module _ {w₀ : List ℕ} {l : HierarchyLevel} {tallies ranks v : ℕ} (t : Tal
   whole = ready-by (length w₀) (t .ready) (omega (arith, t .room)) (omega arith)
 
   pub rises : from ≤ to
-  rises = row-rises (t .ready) v (t .vertex)
+  rises = row-rises (t .ready) v vertex
 
   pub ends : to ≤ l .entries
-  ends = row-ends (t .ready) v (t .vertex)
+  ends = row-ends (t .ready) v vertex
 
   module _ {w : List ℕ} (k : Kept tallies (tallies + ranks) w w₀) (i : ℕ) (a : from ≤ i) (b : i < to) where
     pub owner-asks : Ready w l (length w) × (i < l .entries) × (at (neighborsAt w l) i < l .vertices)
@@ -54,7 +54,7 @@ module _ {w₀ : List ℕ} {l : HierarchyLevel} {tallies ranks v : ℕ} (t : Tal
         let below : l .owners ≤ tallies = omega (arith, t .ready .laid) in
         (ready-by (length w) (ready-kept (t .ready) k below) (omega (arith, t .room, k .same-length)) (omega arith),
         omega (arith, ends),
-        rw (neighbors-kept (t .ready) k below) (entry-below (t .ready) v (t .vertex) i a b))
+        rw (neighbors-kept (t .ready) k below) (entry-below (t .ready) v vertex i a b))
 
     pub owner-is : (r : ℕ) → r ≡ at (ownersAt w l) (at (neighborsAt w l) i) → r ≡ owner i
     owner-is r e =
@@ -62,7 +62,7 @@ module _ {w₀ : List ℕ} {l : HierarchyLevel} {tallies ranks v : ℕ} (t : Tal
         rw (owners-kept (t .ready) k (omega arith), neighbors-kept (t .ready) k below) at e
 
     pub owner-in : (r : ℕ) → r ≡ at (ownersAt w l) (at (neighborsAt w l) i) → r < ranks
-    owner-in r e = rw (owner-is r e) (t .ranked (at (neighborsAt w₀ l) i) (entry-below (t .ready) v (t .vertex) i a b))
+    owner-in r e = rw (owner-is r e) (t .ranked (at (neighborsAt w₀ l) i) (entry-below (t .ready) v vertex i a b))
 
     -- the store of a turn
     stored : (r x : ℕ) → r < ranks → at (set w (tallies + r) x) (tallies + r) ≡ x
@@ -101,18 +101,21 @@ module _ {w₀ : List ℕ} {l : HierarchyLevel} {tallies ranks v : ℕ} (t : Tal
               rw f (omega (arith, d .counts s m, rw y at n)));
         }
 
-  pub tally-end : {w : List ℕ} → TallyTo w₀ w l tallies ranks v to → Tallied w₀ w l tallies ranks v
-  tally-end d = record {
-    counts = λ r h. d .counts r h ∙ ap (λ (us : List ℕ). linksIn us (ownersAt w₀ l) r) (sym (row-part (t .ready) v (t .vertex)));
-    kept = d .kept;
-  }
+  pub tally-end : {w : List ℕ} → TallyTo w₀ w l tallies ranks v to → Tallied w l tallies ranks v × Kept tallies (tallies + ranks) w w₀
+  tally-end {w} d =
+      let below : l .owners ≤ tallies = omega (arith, t .ready .laid) in
+      (λ r h.
+      d .counts r h
+      ∙ ap (λ (us : List ℕ). linksIn us (ownersAt w₀ l) r) (sym (row-part (t .ready) v vertex))
+      ∙ rw (rows-kept (t .ready) (d .kept) below, owners-kept (t .ready) (d .kept) (omega arith)),
+      d .kept)
 
   -- ---- clearing
 
-  pub clear-start : Untouched w₀ l tallies ranks v → ClearFrom w₀ w₀ l tallies ranks v from
+  pub clear-start : Tallied w₀ l tallies ranks v → ClearFrom w₀ w₀ l tallies ranks v from
   clear-start z = record {
     kept = kept-refl tallies (tallies + ranks) w₀;
-    zeros = λ r h e. z r h (ap (λ (us : List ℕ). linksIn us (ownersAt w₀ l) r) (row-part (t .ready) v (t .vertex)) ∙ e);
+    zeros = λ r h e. z r h ∙ ap (λ (us : List ℕ). linksIn us (ownersAt w₀ l) r) (row-part (t .ready) v vertex) ∙ e;
   }
 
   module _ {w : List ℕ} {i : ℕ} (d : ClearFrom w₀ w l tallies ranks v i) (a : from ≤ i) (b : i < to) (r : ℕ) (e : r ≡ at (ownersAt w l) (at (neighborsAt w l) i)) where

@@ -26,7 +26,7 @@ within : (c : tie.After-owner-at Inv-loop μ-loop) → c .owner-at .result < c .
 within c =
     let s = c .before .before .before .before .before .before .before .before .before in
     let l = c .before .before .before .loop in
-    owner-in (s .pre .0) (l .inv .3 .kept) (l .i) (l .inv .0) (omega (arith, c .before .before .loop-test .taken, l .inv .2)) (c .owner-at .result) (c .owner-at .ensures)
+    owner-in (s .pre .0) (s .pre .1) (l .inv .3 .kept) (l .i) (l .inv .0) (omega (arith, c .before .before .loop-test .taken, l .inv .2)) (c .owner-at .result) (c .owner-at .ensures)
 
 
 -- src/moves.rt:66:39
@@ -35,11 +35,11 @@ add-row-start c = search needs
 
 -- src/moves.rt:66:9
 row-start-requires : tie.Need-row-start-requires Inv-loop μ-loop
-row-start-requires c κs = let s = c .before .before in (whole (s .pre .0), omega (arith, s .pre .0 .vertex))
+row-start-requires c κs = let s = c .before .before in (whole (s .pre .0) (s .pre .1), omega (arith, s .pre .1))
 
 -- src/moves.rt:67:9
 row-start-requires-2 : tie.Need-row-start-requires-2 Inv-loop μ-loop
-row-start-requires-2 c κs = let s = c .before .before .before .before in (whole (s .pre .0), omega (arith, s .pre .0 .vertex))
+row-start-requires-2 c κs = let s = c .before .before .before .before in (whole (s .pre .0) (s .pre .1), omega (arith, s .pre .1))
 
 -- src/moves.rt:68:5
 loop-holds : tie.Need-loop-holds Inv-loop μ-loop
@@ -47,14 +47,14 @@ loop-holds c =
     let s = c .before .before .before .before .before in
     let e : c .row-start2 .result ≡ at (offsetsAt (s .args .work .now) (s .args .l)) (s .args .v) = c .row-start2 .ensures in
     let f : c .before .before .row-start .result ≡ at (offsetsAt (s .args .work .now) (s .args .l)) (s .args .v + 1) = c .before .before .row-start .ensures in
-    (omega arith, omega (arith, rises (s .pre .0)), f, rw e (clear-start (s .pre .0) (s .pre .1)))
+    (omega arith, omega (arith, rises (s .pre .0) (s .pre .1)), f, rw e (clear-start (s .pre .0) (s .pre .1) (s .pre .2)))
 
 -- src/moves.rt:69:13
 owner-at-requires : tie.Need-owner-at-requires Inv-loop μ-loop
 owner-at-requires c κs =
     let s = c .before .before .before .before .before .before .before .before in
     let l = c .before .before .loop in
-    owner-asks (s .pre .0) (l .inv .3 .kept) (l .i) (l .inv .0) (omega (arith, c .before .loop-test .taken, l .inv .2))
+    owner-asks (s .pre .0) (s .pre .1) (l .inv .3 .kept) (l .i) (l .inv .0) (omega (arith, c .before .loop-test .taken, l .inv .2))
 
 -- src/moves.rt:70:35
 add-store-part : tie.Need-add-store-part Inv-loop μ-loop
@@ -78,7 +78,7 @@ loop-again c =
     let s = c .before .before .before .before .before .before .before .before .before .before .before .before .before in
     let l = c .before .before .before .before .before .before .before .loop in
     let b : l .i < at (offsetsAt (s .args .work .now) (s .args .l)) (s .args .v + 1) = omega (arith, c .before .before .before .before .before .before .loop-test .taken, l .inv .2) in
-    (omega (arith, l .inv .0), omega (arith, c .before .before .before .before .before .before .loop-test .taken), l .inv .2, clear-turn (s .pre .0) (l .inv .3) (l .inv .0) b (c .before .before .before .before .owner-at .result) (c .before .before .before .before .owner-at .ensures) _ (c .before .before .store-part .ensures))
+    (omega (arith, l .inv .0), omega (arith, c .before .before .before .before .before .before .loop-test .taken), l .inv .2, clear-turn (s .pre .0) (s .pre .1) (l .inv .3) (l .inv .0) b (c .before .before .before .before .owner-at .result) (c .before .before .before .before .owner-at .ensures) _ (c .before .before .store-part .ensures))
 
 -- src/moves.rt:62:1
 same-length : tie.Need-same-length Inv-loop μ-loop
@@ -90,7 +90,7 @@ returns c =
     let s = c .before .before .before .before .before .before .before in
     let l = c .before .loop in
     let e : l .i ≡ at (offsetsAt (s .args .work .now) (s .args .l)) (s .args .v + 1) = omega (arith, c .loop-test .left, l .inv .1, l .inv .2) in
-    clear-end (s .pre .0) (rw e at (l .inv .3))
+    clear-end (s .pre .0) (s .pre .1) (rw e at (l .inv .3))
 
 pub untally-spec : {M : Type 1} → statement M
 untally-spec =
