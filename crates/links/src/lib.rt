@@ -1,8 +1,13 @@
 // Loads and links: rules 1 and 2 of document 01, the neighbor query and the list test, options and stats, parts of the lent work slice.
+mod loads;
 mod options;
 mod owners;
 mod parts;
 
+pub use loads::load_cap;
+pub use loads::minimum_load;
+pub use loads::saturating_add;
+pub use loads::saturating_mul;
 pub use options::AbtmMultilevelOptions;
 pub use options::AbtmMultilevelStats;
 pub use owners::Assignment;
@@ -12,6 +17,9 @@ pub use parts::copy_into;
 pub use parts::copy_part;
 pub use parts::fill;
 pub use parts::fill_part;
+pub use owners::from_owners;
+pub use owners::owned_count;
+pub use owners::owner_of;
 pub use parts::index;
 pub use parts::store;
 pub use parts::store_part;
