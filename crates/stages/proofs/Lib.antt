@@ -5,6 +5,7 @@ pub mod MovesLaws
 pub mod MovesSliceLaws
 pub mod TallySliceLaws
 pub mod LoadSliceLaws
+pub mod MovesTurnLaws
 pub mod CutLaws
 pub mod StepLaws
 pub mod GrowthLaws

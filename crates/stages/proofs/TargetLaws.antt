@@ -327,3 +327,8 @@ module _ (b : Balance) (rows : List (List ℕ)) (weights owners : List ℕ) (v :
       (λ s e p. (all-in (λ r. r < b .ranks) rs s (all-map (λ r. r < b .ranks) (at owners) (row rows v) a) e, p))
       (λ s q. inr (has-neighbor s (q .1), q .1))))
       (top-best g passing (preferred b rows weights owners v) agrees (b .ranks))
+
+  -- a target is a rank
+  pub target-rank : (r : ℕ) → target b rows weights owners v ≡ some r → r < b .ranks
+  unfolding target
+  target-rank r e = top-best (λ s. offerAt s .gain) passing (preferred b rows weights owners v) agrees (b .ranks) .passes r e .0

@@ -4,12 +4,13 @@ use mathlib.Core.Path.{_≡_}
 use mathlib.Core.Bool.{Bool, cond}
 use mathlib.Core.List.{List}
 use mathlib.Core.Option.{Option, none, some}
-use lib.ListN.{length}
+use lib.ListN.{length, set}
 use lib.Dec.{leb, ltb, eqb}
-use Rattle.links.specs.Lists.{at, above}
+use Rattle.links.specs.Lists.{at, above, foldl}
 use Rattle.links.specs.Parts.{Kept}
 use Rattle.links.specs.Graph.{linksTo, load}
 use Rattle.stages.specs.Level.{offsetsAt, neighborsAt, rowsAt, weightsAt, ownersAt, Ready}
+use Rattle.stages.specs.Moves.{Step, after}
 use Rattle.stages.specs.declared.level.HierarchyLevel.{HierarchyLevel}
 use Rattle.stages.specs.declared.moves.Offer.{Offer}
 use Rattle.stages.specs.declared.moves.Refined.{Refined}
@@ -38,6 +39,32 @@ Loaded w l loads ranks = (r : ℕ) → r < ranks → at w (loads + r) ≡ load (
 -- the tallies are v's neighbors counted by their owners
 abbrev pub Tallied : List ℕ → HierarchyLevel → (tallies ranks v : ℕ) → Type 0
 Tallied w l tallies ranks v = (r : ℕ) → r < ranks → at w (tallies + r) ≡ linksTo (rowsAt w l) (ownersAt w l) v r
+
+-- what moves need: the level, its ranks' loads from `scratch` on, and room for as many tallies
+pub record Weighed (w : List ℕ) (l : HierarchyLevel) (scratch ranks : ℕ) : Type 0 where
+  pub ready : Ready w l scratch
+  pub room : scratch + (ranks + ranks) ≤ length w
+  pub few : ranks ≤ 256
+  pub ranked : Ranked w l ranks
+  pub loaded : Loaded w l scratch ranks
+
+-- and those tallies are 0, as they are between two vertices
+pub record Moving (w : List ℕ) (l : HierarchyLevel) (scratch ranks : ℕ) : Type 0 where
+  pub weighed : Weighed w l scratch ranks
+  pub clear : Clear w (scratch + ranks) ranks
+
+-- v goes over to a rank
+pub record Shifted (w w′ : List ℕ) (l : HierarchyLevel) (scratch ranks v rank : ℕ) : Type 0 where
+  pub owners : ownersAt w′ l ≡ set (ownersAt w l) v rank
+  pub weighed : Weighed w′ l scratch ranks
+  pub kept : Kept (l .owners) (scratch + ranks) w′ w
+
+-- these steps were made, so many
+pub record Stepped (w w′ : List ℕ) (l : HierarchyLevel) (scratch ranks : ℕ) (steps : List Step) (count : ℕ) : Type 0 where
+  pub owners : ownersAt w′ l ≡ foldl after (ownersAt w l) steps
+  pub number : count ≡ length steps
+  pub moving : Moving w′ l scratch ranks
+  pub kept : Kept (l .owners) (scratch + (ranks + ranks)) w′ w
 
 -- ---- the choice of a target
 
