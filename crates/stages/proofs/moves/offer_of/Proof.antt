@@ -25,15 +25,28 @@ add-if1 c = search needs
 
 -- src/moves.rt:124:9
 returns : tie.Need-returns
-returns c = ?
+unfolding offerOf
+returns c =
+    let s = c .before .before .before .args in
+    let k : s .cap < s .load + s .weight = omega (arith, c .if1 .taken, c .before .before .wide .ensures, c .before .wide2 .ensures) in
+    rw (lt-leb (s .load + s .weight) (s .cap) k)
 
 -- src/moves.rt:127:9
 returns-2 : tie.Need-returns-2
-returns-2 c = ?
+unfolding offerOf
+returns-2 c =
+    let s = c .before .before .before .before .args in
+    let k : s .load + s .weight ≤ s .cap = omega (arith, c .before .if1 .left, c .before .before .before .wide .ensures, c .before .before .wide2 .ensures) in
+    let z : s .there - s .home ≡ 0 = omega (arith, c .if2 .taken) in
+    rw (le-leb (s .load + s .weight) (s .cap) k, z)
 
 -- src/moves.rt:120:1
 returns-3 : tie.Need-returns-3
-returns-3 c = ?
+unfolding offerOf
+returns-3 c =
+    let s = c .before .before .before .before .args in
+    let k : s .load + s .weight ≤ s .cap = omega (arith, c .before .if1 .left, c .before .before .before .wide .ensures, c .before .before .wide2 .ensures) in
+    rw (le-leb (s .load + s .weight) (s .cap) k)
 
 pub offer-of-spec : {M : Type 1} → statement M
 offer-of-spec =
