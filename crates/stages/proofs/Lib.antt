@@ -6,6 +6,7 @@ pub mod MovesSliceLaws
 pub mod TallySliceLaws
 pub mod LoadSliceLaws
 pub mod MovesTurnLaws
+pub mod MovesPassLaws
 pub mod CutLaws
 pub mod StepLaws
 pub mod GrowthLaws
