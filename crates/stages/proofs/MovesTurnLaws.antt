@@ -1,5 +1,5 @@
 -- What a vertex's turn does in the work slice: the best offer, the loads after a move, and the step that was made. Assumes nothing.
-use Prim.Native.Nat.{ℕ, zero, suc, _+_, _-_, _≤_, _<_, _^_}
+use Prim.Native.Nat.{ℕ, zero, suc, _+_, _-_, _≤_, _<_, _^_, _*_}
 use mathlib.Core.Path.{_≡_, refl, sym, ap, _∙_}
 use mathlib.Core.Bool.{Bool, true, false, cond}
 use mathlib.Core.List.{List, [], _∷_, _++_}
@@ -273,7 +273,7 @@ module _ {w : List ℕ} {l : HierarchyLevel} {scratch : ℕ} (limits : Limits) (
     owners = rw e;
     number = rw e;
     moving = m;
-    kept = kept-refl (l .owners) (scratch + (limits .ranks + limits .ranks)) w;
+    kept = kept-refl (l .owners) (scratch + 2 * limits .ranks) w;
   }
 
   pub may-not : leaving ≡ false → Stepped w w l scratch (limits .ranks) steps 0
@@ -309,5 +309,5 @@ module _ {w : List ℕ} {l : HierarchyLevel} {scratch : ℕ} (limits : Limits) (
           weighed = s .weighed;
           clear = λ i h. s .kept .beyond (scratch + limits .ranks + i) (omega arith) ∙ m .clear i h;
         };
-        kept = kept-wide (l .owners) (scratch + limits .ranks) (l .owners) (scratch + (limits .ranks + limits .ranks)) w′ w (omega arith) (omega arith) (s .kept);
+        kept = kept-wide (l .owners) (scratch + limits .ranks) (l .owners) (scratch + 2 * limits .ranks) w′ w (omega arith) (omega arith) (s .kept);
       }

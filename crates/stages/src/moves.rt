@@ -6,12 +6,15 @@ ghost use lib.ListN.{length};
 ghost use Rattle.links.specs.Lists.{at};
 ghost use Rattle.links.specs.Parts.{Kept};
 ghost use Rattle.links.specs.Graph.{vertices};
+ghost use Rattle.links.specs.Owners.{AssignmentTold};
 ghost use Rattle.stages.specs.Level.{offsetsAt, neighborsAt, rowsAt, weightsAt, ownersAt, Ready, balanceIn};
-ghost use Rattle.stages.specs.Moves.{mayLeave, target, movePass, refineByCut};
-ghost use Rattle.stages.specs.MovesCode.{Roomed, Clear, Loaded, Tallied, Weighed, Moving, Shifted, Stepped, offerOf, betterOffer, offered};
+ghost use Rattle.stages.specs.Moves.{mayLeave, target, movePass};
+ghost use Rattle.stages.specs.MovesCode.{Roomed, Clear, Loaded, Tallied, Weighed, Moving, Shifted, Stepped, offerOf, betterOffer, offered, movesAt, Refinable, RefinedByCut};
 use super::level::HierarchyLevel;
 use super::level::Limits;
+use links::Assignment;
 use links::fill_part;
+use links::from_owners;
 use links::index;
 use links::store_part;
 use links::wide;
@@ -249,7 +252,7 @@ fn pass(work: &mut [u32], l: HierarchyLevel, scratch: usize, limits: Limits) -> 
 fn all_passes(work: &mut [u32], l: HierarchyLevel, scratch: usize, limits: Limits, passes: u64) -> u64
     requires { ⌜ Moving (now work) l scratch (limits .ranks) ⌝ }
     ensures { λ r. ⌜ Stepped (now (work .entry)) (now (work .exit)) l scratch (limits .ranks)
-        (refineByCut (balanceIn limits) (rowsAt (now (work .entry)) l) (weightsAt (now (work .entry)) l) passes (ownersAt (now (work .entry)) l) .steps) r ⌝ }
+        (movesAt (now (work .entry)) l limits passes) r ⌝ }
 {
     let mut total: u64 = 0;
     let mut p: u64 = 0;
@@ -262,4 +265,30 @@ fn all_passes(work: &mut [u32], l: HierarchyLevel, scratch: usize, limits: Limit
         total = total + moved;
     }
     total
+}
+
+// The check of a level's owners.
+fn check_owners(work: &[u32], l: HierarchyLevel, ranks: usize) -> Assignment
+    requires { ⌜ Ready (now work) l (length (now work)) × (ranks ≤ 256) ⌝ }
+    ensures { λ r. ⌜ AssignmentTold ranks (ownersAt (now (work .entry)) l) r ⌝ }
+{
+    let owners = l.owners;
+    let end = owners + l.vertices;
+    from_owners(ranks as u32, &work[owners..end])
+}
+
+// Rule 6: moves on a level's owners, then the check of the owners. Two numbers for each rank from scratch on.
+pub fn refine_by_cut(work: &mut [u32], l: HierarchyLevel, scratch: usize, limits: Limits, passes: u64) -> Refined
+    requires { ⌜ Refinable (now work) l scratch (limits .ranks) ⌝ }
+    ensures { λ r. ⌜ RefinedByCut (now (work .entry)) (now (work .exit)) l scratch limits passes r ⌝ }
+{
+    let ranks = limits.ranks;
+    clear(work, scratch, 2 * ranks);
+    weigh(work, l, scratch, ranks);
+    let moves = all_passes(work, l, scratch, limits, passes);
+    let checked = check_owners(&work[..], l, ranks);
+    match checked {
+        Assignment::Valid => Refined::Moved(moves),
+        Assignment::Refused(number) => Refined::Refused(number),
+    }
 }
