@@ -1,3 +1,12 @@
+pub mod LoadSetLaws
+pub mod TallyLaws
+pub mod TargetLaws
+pub mod MovesLaws
+pub mod MovesSliceLaws
+pub mod TallySliceLaws
+pub mod LoadSliceLaws
+pub mod MovesTurnLaws
+pub mod MovesPassLaws
 pub mod CutLaws
 pub mod StepLaws
 pub mod GrowthLaws

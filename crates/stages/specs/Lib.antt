@@ -6,3 +6,4 @@ pub mod Moves
 pub mod Swaps
 pub mod CoarsenCode
 pub mod CoarsenParts
+pub mod MovesCode
