@@ -12,3 +12,4 @@ pub mod SolveLaws
 pub mod FinishLaws
 pub mod RoomLaws
 pub mod LayLaws
+pub mod PlaceLaws

@@ -6,3 +6,4 @@ pub mod File
 pub mod Contract
 pub mod Driver
 pub mod Room
+pub mod DriverCode
