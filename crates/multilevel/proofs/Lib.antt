@@ -13,3 +13,4 @@ pub mod FinishLaws
 pub mod RoomLaws
 pub mod LayLaws
 pub mod PlaceLaws
+pub mod DescentLaws

@@ -8,7 +8,7 @@ use native.Mathlib.Omega.{arith}
 use lib.ListN.{length}
 use lib.Dec.{ltb, eqb}
 use borrow.Author.Tests.{eq-eqb, ne-eqb, eqb-true, eqb-false}
-use Rattle.links.specs.Lists.{at, unassigned, any, sum}
+use Rattle.links.specs.Lists.{at, unassigned, any, sum, All}
 use Rattle.links.specs.Loads.{Balance}
 use Rattle.links.specs.Owners.{fromOwners}
 use Rattle.links.specs.Options.{zeroStats, addedPairs, addedMoves, grownStats}
@@ -17,6 +17,7 @@ use Rattle.links.proofs.ListLaws.{split}
 use Rattle.stages.specs.Coarsen.{Coarse}
 use Rattle.stages.specs.Seeds.{farthestSeeds}
 use Rattle.stages.specs.Growth.{Growth, weightedMultisource, grown, restartCount}
+use Rattle.stages.proofs.RankLaws.{checked-ranked}
 use Rattle.multilevel.specs.declared.driver.Answer.{Answer}
 use Rattle.multilevel.specs.declared.driver.Answer.the-variants.{Divided, Refused}
 use Rattle.multilevel.specs.Division.{Trace, refine, grow, takeOver}
@@ -244,3 +245,48 @@ module _ (b : Balance) (passes : ℕ) (rows : List (List ℕ)) (ws : List ℕ) (
                 steps = omega (arith, count, small .steps);
               };
         }
+
+-- ---- the owners of a level that is not refused pass the check
+
+onward-checked
+    : (b : Balance) (passes : ℕ) (rows : List (List ℕ)) (ws group : List ℕ) (t s : Trace)
+    → onward b passes rows ws group t s .refusal ≡ 0
+    → t .refusal ≡ 0 → fromOwners (b .ranks) (onward b passes rows ws group t s .owners) ≡ 0
+onward-checked b passes rows ws group t s z e =
+    let same = onward-moves b passes rows ws group t s e in
+    let y : fromOwners (b .ranks) (movedFrom b passes rows ws (s .owners)) ≡ 0 =
+    sym (refine-refusal b passes rows ws group s 0) ∙ sym (ap (λ (x : Trace). x .refusal) same) ∙ z in
+    ap (λ (x : Trace). fromOwners (b .ranks) (x .owners)) same ∙ ap (fromOwners (b .ranks)) (refine-owners b passes rows ws group s y) ∙ y
+
+-- a refusal so far would have stayed
+onward-first
+    : (b : Balance) (passes : ℕ) (rows : List (List ℕ)) (ws group : List ℕ) (t s : Trace) → onward b passes rows ws group t s .refusal ≡ 0 → t .refusal ≡ 0
+onward-first b passes rows ws group t s z = split (eqb (t .refusal) 0)
+    (λ p. eqb-true (t .refusal) 0 p)
+    (λ p. sym (ap (λ (x : Trace). x .refusal) (onward-refused b passes rows ws group t s (eqb-false (t .refusal) 0 p))) ∙ z)
+
+pub solved-checked
+    : (b : Balance) (passes : ℕ) (rows : List (List ℕ)) (ws : List ℕ) (cs : List Coarse)
+    → solved b passes rows ws cs .refusal ≡ 0
+    → fromOwners (b .ranks) (solved b passes rows ws cs .owners) ≡ 0
+solved-checked b passes rows ws [] z =
+    let g = grow b passes rows ws in
+    let e = solved-coarsest b passes rows ws in
+    let y : onward b passes rows ws [] g g .refusal ≡ 0 = sym (ap (λ (x : Trace). x .refusal) e) ∙ z in
+    ap (λ (x : Trace). fromOwners (b .ranks) (x .owners)) e ∙ onward-checked b passes rows ws [] g g y (onward-first b passes rows ws [] g g y)
+solved-checked b passes rows ws (c ∷ cs) z =
+    let t = solved b passes (c .rows) (c .weights) cs in
+    let s = takeOver (c .group) t in
+    let e = solved-finer b passes rows ws c cs in
+    let y : onward b passes rows ws (c .group) t s .refusal ≡ 0 = sym (ap (λ (x : Trace). x .refusal) e) ∙ z in
+    ap (λ (x : Trace). fromOwners (b .ranks) (x .owners)) e ∙ onward-checked b passes rows ws (c .group) t s y (onward-first b passes rows ws (c .group) t s y)
+
+-- so every owner is a rank, and there are as many as vertices
+pub told-ranked
+    : (b : Balance) (passes : ℕ) (rows : List (List ℕ)) (ws : List ℕ) (cs : List Coarse) (left : ℕ) (o : List ℕ) (s : AbtmMultilevelStats)
+    → Told b passes rows ws cs left o (Divided s)
+    → All (λ x. x < b .ranks) o
+told-ranked b passes rows ws cs left o s k =
+    let t = solved b passes rows ws cs in
+    let z = divided-of (t .refusal) (statsSoFar rows cs t) s (k .answer-is) .0 in
+    rw (k .owners-are z) (checked-ranked (b .ranks) (t .owners) (solved-checked b passes rows ws cs z))
