@@ -14,3 +14,4 @@ pub mod RoomLaws
 pub mod LayLaws
 pub mod PlaceLaws
 pub mod DescentLaws
+pub mod CallLaws

@@ -4,9 +4,10 @@ use mathlib.Core.Path.{_≡_}
 use mathlib.Core.List.{List, []}
 use lib.ListN.{length}
 use Rattle.links.specs.Parts.{Kept}
-use Rattle.links.specs.Loads.{Balance}
+use Rattle.links.specs.Loads.{loadCap, minimumLoad}
+use Rattle.links.specs.Graph.{vertexCount}
 use Rattle.links.specs.Owners.{fromOwners}
-use Rattle.links.specs.Options.{addedMoves}
+use Rattle.links.specs.Options.{stopSize, addedMoves}
 use Rattle.links.specs.declared.options.AbtmMultilevelStats.{AbtmMultilevelStats}
 use Rattle.stages.specs.Level.{rowsAt, weightsAt, ownersAt, Ready, balanceIn}
 use Rattle.stages.specs.Coarsen.{Coarse}
@@ -14,7 +15,10 @@ use Rattle.stages.specs.MovesCode.{Ranked}
 use Rattle.stages.specs.declared.level.HierarchyLevel.{HierarchyLevel}
 use Rattle.multilevel.specs.declared.driver.Answer.{Answer}
 use Rattle.multilevel.specs.declared.driver.Rules.{Rules}
-use Rattle.multilevel.specs.Division.{coarsenings}
+use Rattle.multilevel.specs.Causes.{Call, needOf, earlyCause}
+use Rattle.multilevel.specs.Division.{coarsenings, division}
+use Rattle.multilevel.specs.Room.{unitOf, levelAt}
+use Rattle.multilevel.specs.Contract.{answerOf, ownersAfter}
 use Rattle.multilevel.specs.Driver.{movesFrom, movedFrom, answerFor, Told}
 
 -- a level lies in its room, and `left` more may lie above it, below the stages' own room
@@ -50,3 +54,32 @@ pub record LevelSolved (w w′ : List ℕ) (l : HierarchyLevel) (q : Rules) (lef
   pub told
       : Told (balanceIn (q .limits)) (q .passes) (rowsAt w l) (weightsAt w l) (coarsenings left (q .stop) (rowsAt w l) (weightsAt w l)) left (ownersAt w′ l) a
   pub kept : Kept (l .«fine_to_coarse») (length w) w′ w
+
+-- ---- the whole division
+
+-- what a call's division goes by, and where its finest level lies
+abbrev pub rulesFor : Call → Rules
+rulesFor c =
+    let n = vertexCount (c .offsets) in
+    let t = c .options .«imbalance_per_mille» in
+    let unit = unitOf n (length (c .neighbors)) in
+    record {
+      limits = record { ranks = c .ranks; floor = minimumLoad n (c .ranks) t; cap = loadCap n (c .ranks) t };
+      passes = c .options .«refinement_passes»;
+      stop = stopSize (c .options) (c .ranks);
+      unit = unit;
+      scratch = (c .options .«max_levels» + 1) * unit;
+    }
+
+abbrev pub siteLevel : Call → HierarchyLevel
+siteLevel c = levelAt (vertexCount (c .offsets)) (length (c .neighbors)) 0
+
+-- a call that passed the early tests, on a work slice of the length that it needs
+pub record Divisible (c : Call) (w : List ℕ) : Type 0 where
+  pub passed : earlyCause c ≡ 0
+  pub exact : length w ≡ needOf c
+
+-- the answer and the owners that the division asks for
+pub record SiteDivided (c : Call) (owners owners′ : List ℕ) (a : Answer) : Type 0 where
+  pub answer-is : a ≡ answerOf (division c .outcome)
+  pub owners-are : owners′ ≡ ownersAfter (division c .outcome) owners
