@@ -8,6 +8,7 @@ use Rattle.links.specs.Loads.{loadCap, minimumLoad}
 use Rattle.links.specs.Graph.{vertexCount}
 use Rattle.links.specs.Owners.{fromOwners}
 use Rattle.links.specs.Options.{stopSize, addedMoves}
+use Rattle.links.specs.declared.options.AbtmMultilevelOptions.{AbtmMultilevelOptions}
 use Rattle.links.specs.declared.options.AbtmMultilevelStats.{AbtmMultilevelStats}
 use Rattle.stages.specs.Level.{rowsAt, weightsAt, ownersAt, Ready, balanceIn}
 use Rattle.stages.specs.Coarsen.{Coarse}
@@ -57,20 +58,21 @@ pub record LevelSolved (w w′ : List ℕ) (l : HierarchyLevel) (q : Rules) (lef
 
 -- ---- the whole division
 
--- what a call's division goes by, and where its finest level lies
-abbrev pub rulesFor : Call → Rules
-rulesFor c =
-    let n = vertexCount (c .offsets) in
-    let t = c .options .«imbalance_per_mille» in
-    let unit = unitOf n (length (c .neighbors)) in
+-- what a division of n vertices and m entries goes by
+abbrev pub rulesWith : ℕ → ℕ → ℕ → AbtmMultilevelOptions → Rules
+rulesWith n m k options =
     record {
-      limits = record { ranks = c .ranks; floor = minimumLoad n (c .ranks) t; cap = loadCap n (c .ranks) t };
-      passes = c .options .«refinement_passes»;
-      stop = stopSize (c .options) (c .ranks);
-      unit = unit;
-      scratch = (c .options .«max_levels» + 1) * unit;
+      limits = record { ranks = k; floor = minimumLoad n k (options .«imbalance_per_mille»); cap = loadCap n k (options .«imbalance_per_mille») };
+      passes = options .«refinement_passes»;
+      stop = stopSize options k;
+      unit = unitOf n m;
+      scratch = (options .«max_levels» + 1) * unitOf n m;
     }
 
+abbrev pub rulesFor : Call → Rules
+rulesFor c = rulesWith (vertexCount (c .offsets)) (length (c .neighbors)) (c .ranks) (c .options)
+
+-- where its finest level lies
 abbrev pub siteLevel : Call → HierarchyLevel
 siteLevel c = levelAt (vertexCount (c .offsets)) (length (c .neighbors)) 0
 
