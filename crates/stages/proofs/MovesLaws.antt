@@ -1,7 +1,7 @@
 -- Laws of rule 6's passes: what is left of a pass at a vertex, and of the passes at a pass. Assumes nothing.
-use Prim.Native.Nat.{ℕ, zero, suc, _+_, _-_, _≤_, _<_}
-use mathlib.Core.Path.{_≡_, refl, sym, ap, _∙_}
-use mathlib.Core.Bool.{Bool, true, false, cond}
+use Prim.Native.Nat.{ℕ, suc, _+_, _-_, _≤_, _<_}
+use mathlib.Core.Path.{_≡_, refl, sym, _∙_}
+use mathlib.Core.Bool.{true, cond}
 use mathlib.Core.List.{List, [], _∷_, _++_}
 use mathlib.Core.Option.{Option, none, some}
 use native.Mathlib.Omega.{arith}
@@ -9,9 +9,8 @@ use native.Mathlib.Numerals.{add-one}
 use lib.ListN.{length, set, length-append}
 use Rattle.links.specs.Lists.{at, foldl, range, empty, option}
 use Rattle.links.specs.Loads.{Balance}
-use Rattle.links.specs.Graph.{vertices}
 use Rattle.stages.proofs.StepLaws.{foldl-append}
-use Rattle.stages.specs.Moves.{Step, move, after, Steps, repeat, destination, movePass, refineByCut}
+use Rattle.stages.specs.Moves.{Step, move, after, Steps, repeat, destination, movePass}
 
 -- what is done is a number of steps and the owners they left; what is left, from there on, is a list of steps: the same end
 pub record Toward (owners₀ : List ℕ) (all : List Step) (owners : List ℕ) (done : ℕ) (left : List Step) : Type 0 where

@@ -1,15 +1,14 @@
 -- Rule 6's passes in the work slice: what a vertex's turn does to a pass, and a pass to the passes. Assumes nothing.
-use Prim.Native.Nat.{ℕ, zero, suc, _+_, _-_, _≤_, _<_, _^_, _*_}
-use mathlib.Core.Path.{_≡_, refl, sym, ap, _∙_}
-use mathlib.Core.Bool.{Bool, true, false, cond}
-use mathlib.Core.Logic.{_⊎_, ⊎-elim}
+use Prim.Native.Nat.{ℕ, _+_, _-_, _≤_, _<_, _*_}
+use mathlib.Core.Path.{_≡_, sym, ap, _∙_}
+use mathlib.Core.Bool.{cond}
 use mathlib.Core.List.{List, [], _∷_}
 use native.Mathlib.Omega.{arith}
 use lib.ListN.{length}
 use lib.Dec.{eqb}
 use borrow.Author.Tests.{eqb-true}
 use Rattle.links.proofs.ListLaws.{split}
-use Rattle.links.specs.Lists.{foldl, range}
+use Rattle.links.specs.Lists.{foldl}
 use Rattle.links.specs.Parts.{Kept}
 use Rattle.links.specs.Graph.{vertices}
 use Rattle.links.specs.Owners.{fromOwners, AssignmentTold}
@@ -20,7 +19,7 @@ use Rattle.stages.specs.declared.moves.Refined.the-variants as refined
 use Rattle.links.proofs.PartLaws.{kept-refl, kept-trans, kept-wide}
 use Rattle.stages.specs.Level.{offsetsAt, neighborsAt, rowsAt, weightsAt, ownersAt, Ready, balanceIn}
 use Rattle.stages.specs.Moves.{Step, after, movePass, refineByCut}
-use Rattle.stages.specs.MovesCode.{Ranked, Roomed, Clear, Loaded, Moving, Stepped, movesAt, movedAt, refinedNumber, refinedValue, Refinable, RefinedByCut}
+use Rattle.stages.specs.MovesCode.{Roomed, Clear, Loaded, Moving, Stepped, movesAt, movedAt, refinedNumber, refinedValue, Refinable, RefinedByCut}
 use Rattle.stages.specs.declared.level.HierarchyLevel.{HierarchyLevel}
 use Rattle.stages.specs.declared.level.Limits.{Limits}
 use Rattle.stages.proofs.CutLaws.{cut-entries, list-entries}

@@ -1,6 +1,6 @@
 -- What a vertex's turn does in the work slice: the best offer, the loads after a move, and the step that was made. Assumes nothing.
-use Prim.Native.Nat.{ℕ, zero, suc, _+_, _-_, _≤_, _<_, _^_, _*_}
-use mathlib.Core.Path.{_≡_, refl, sym, ap, _∙_}
+use Prim.Native.Nat.{ℕ, _+_, _-_, _≤_, _<_, _^_, _*_}
+use mathlib.Core.Path.{_≡_, sym, ap, _∙_}
 use mathlib.Core.Bool.{Bool, true, false, cond}
 use mathlib.Core.List.{List, [], _∷_, _++_}
 use mathlib.Core.Option.{Option, none, some}
@@ -8,15 +8,15 @@ use native.Mathlib.Omega.{arith}
 use lib.ListN.{length, set, length-set}
 use lib.Seq.{getD-set-same, getD-set-other, ext-getD}
 use lib.Dec.{leb, ltb, eqb}
-use borrow.Author.Tests.{eq-eqb, ne-eqb, eqb-true, eqb-false, ltb-true, ltb-false, le-leb, lt-leb, leb-true}
-use Rattle.links.specs.Lists.{at, All, foldl, sum, option}
+use borrow.Author.Tests.{ne-eqb, eqb-true, eqb-false, ltb-true, ltb-false, le-leb, leb-true}
+use Rattle.links.specs.Lists.{at, All, foldl}
 use Rattle.links.specs.Parts.{part, Kept}
 use Rattle.links.specs.Graph.{row, linksTo, load}
 use Rattle.links.proofs.ListLaws.{split, iff-eq, all-to}
 use Rattle.links.proofs.PartLaws.{kept-set, kept-refl, kept-wide, part-set-in}
 use Rattle.stages.specs.Level.{offsetsAt, neighborsAt, rowsAt, weightsAt, ownersAt, Ready, balanceIn}
 use Rattle.stages.specs.Moves.{Step, move, after, mayLeave, target, destination, movePass}
-use Rattle.stages.specs.MovesCode.{Clear, Roomed, Loaded, Tallied, Weighed, Moving, Shifted, Stepped, offerOf, betterOffer, offered}
+use Rattle.stages.specs.MovesCode.{Clear, Roomed, Tallied, Weighed, Moving, Shifted, Stepped, offerOf, betterOffer, offered}
 use Rattle.stages.specs.declared.level.HierarchyLevel.{HierarchyLevel}
 use Rattle.stages.specs.declared.level.Limits.{Limits}
 use Rattle.stages.specs.declared.moves.Offer.{Offer}
@@ -24,7 +24,7 @@ use Rattle.stages.proofs.StepLaws.{foldl-append}
 use Rattle.stages.proofs.LoadSetLaws.{load-set, load-sum, load-holds}
 use Rattle.stages.proofs.TallyLaws.{part-snoc}
 use Rattle.stages.proofs.TargetLaws.{offerAt, bestOffer, target-found, target-rank}
-use Rattle.stages.proofs.MovesSliceLaws.{neighbors-all, weights-all, owners-all, rows-all, row-part, row-rises, row-ends, entry-below, rows-kept, weights-kept, owners-kept, ready-kept, ready-by}
+use Rattle.stages.proofs.MovesSliceLaws.{neighbors-all, weights-all, owners-all, rows-all, row-part, row-ends, rows-kept, weights-kept, owners-kept, ready-kept, ready-by}
 
 -- the tallies stand behind the loads
 pub tallies-roomed : {w : List ℕ} {l : HierarchyLevel} {scratch ranks : ℕ} → Weighed w l scratch ranks → Roomed w l (scratch + ranks) ranks
@@ -118,11 +118,9 @@ module _ {w : List ℕ} {l : HierarchyLevel} {scratch ranks : ℕ} (q : Weighed 
       : (limits : Limits) (home weight : ℕ)
       → home ≡ at (ownersAt w l) v
       → weight ≡ at (weightsAt w l) v
-      → leb (limits .floor) (at w (scratch + home) - weight) ≡ mayLeave (balanceIn limits) (rowsAt w l) (weightsAt w l) (ownersAt w l) v
+      → leb (limits .floor + weight) (at w (scratch + home)) ≡ mayLeave (balanceIn limits) (rowsAt w l) (weightsAt w l) (ownersAt w l) v
   unfolding mayLeave
-  may-leave limits home weight a b =
-      leaves (limits .floor) weight (at w (scratch + home)) (load-covers home weight a b)
-      ∙ rw (a, b, q .loaded (at (ownersAt w l) v) (q .ranked v h))
+  may-leave limits home weight a b = rw (a, b, q .loaded (at (ownersAt w l) v) (q .ranked v h))
 
   -- ---- v goes over to a rank: three stores
 

@@ -1,16 +1,15 @@
 -- What the target of rule 6 is, and that it is found among the owners of a vertex's neighbors, in whatever order they are met: it passes the test
 -- and beats every other that passes; there is at most one such. Assumes nothing.
-use Prim.Native.Nat.{ℕ, zero, suc, _+_, _-_, _≤_, _<_}
+use Prim.Native.Nat.{ℕ, zero, suc, _+_, _-_, _<_}
 use mathlib.Core.Path.{_≡_, refl, sym, ap, _∙_, subst}
 use mathlib.Core.Logic.{_⊎_, inl, inr, ⊎-elim}
 use mathlib.Core.Bool.{Bool, true, false, _&&_, _||_, cond, true≢false, false≢true}
 use mathlib.Core.List.{List, [], _∷_, map}
 use mathlib.Core.Option.{Option, none, some}
 use native.Mathlib.Omega.{arith}
-use lib.ListN.{length}
 use lib.Dec.{leb, ltb, eqb}
-use borrow.Author.Tests.{eq-eqb, ne-eqb, eqb-true, eqb-false, ltb-true, ltb-false, lt-ltb, le-ltb}
-use Rattle.links.specs.Lists.{at, All, above, filter, foldl, best, bestFrom, range, elem}
+use borrow.Author.Tests.{eq-eqb, ne-eqb, eqb-true, eqb-false, ltb-true, ltb-false, le-ltb}
+use Rattle.links.specs.Lists.{at, All, above, filter, foldl, best, range, elem}
 use Rattle.links.specs.Loads.{Balance}
 use Rattle.links.specs.Graph.{row, linksTo, load}
 use Rattle.links.proofs.ListLaws.{split, and-l, and-r, all-in, all-map}
