@@ -10,3 +10,5 @@ pub mod MovesPassLaws
 pub mod CutLaws
 pub mod StepLaws
 pub mod GrowthLaws
+pub mod LoadLaws
+pub mod GroupingLaws
