@@ -1,7 +1,7 @@
 -- Laws of rule 6's passes: what is left of a pass at a vertex, and of the passes at a pass. Assumes nothing.
-use Prim.Native.Nat.{ℕ, zero, suc, _+_, _-_, _≤_, _<_}
-use mathlib.Core.Path.{_≡_, refl, sym, ap, _∙_}
-use mathlib.Core.Bool.{Bool, true, false, cond}
+use Prim.Native.Nat.{ℕ, suc, _+_, _-_, _≤_, _<_}
+use mathlib.Core.Path.{_≡_, refl, sym, _∙_}
+use mathlib.Core.Bool.{true, cond}
 use mathlib.Core.List.{List, [], _∷_, _++_}
 use mathlib.Core.Option.{Option, none, some}
 use native.Mathlib.Omega.{arith}
@@ -9,9 +9,8 @@ use native.Mathlib.Numerals.{add-one}
 use lib.ListN.{length, set, length-append}
 use Rattle.links.specs.Lists.{at, foldl, range, empty, option}
 use Rattle.links.specs.Loads.{Balance}
-use Rattle.links.specs.Graph.{vertices}
 use Rattle.stages.proofs.StepLaws.{foldl-append}
-use Rattle.stages.specs.Moves.{Step, move, after, Steps, repeat, destination, movePass, refineByCut}
+use Rattle.stages.specs.Moves.{Step, move, after, Steps, repeat, destination, movePass}
 
 -- what is done is a number of steps and the owners they left; what is left, from there on, is a list of steps: the same end
 pub record Toward (owners₀ : List ℕ) (all : List Step) (owners : List ℕ) (done : ℕ) (left : List Step) : Type 0 where
@@ -66,7 +65,8 @@ module _ (b : Balance) (rows : List (List ℕ)) (weights : List ℕ) where
   pass-turn owners₀ all n v owners owners′ done h f t =
       let e : n - v ≡ suc (n - (v + 1)) = omega arith in
       let ss = movePass b rows weights (v ∷ []) owners in
-      let u : Toward owners₀ all owners done (movePass b rows weights (v ∷ range (v + 1) (n - (v + 1))) owners) = rw (add-one v) (rw (e, add-one v) at t) in
+      let u : Toward owners₀ all owners done (movePass b rows weights (v ∷ range (v + 1) (n - (v + 1))) owners) = rw (add-one v)
+      (rw (e, add-one v) at t) in
       rw f (toward-next owners₀ all owners done ss (movePass b rows weights (range (v + 1) (n - (v + 1))) (foldl after owners ss))
       (rw (pass-split owners v (range (v + 1) (n - (v + 1)))) at u))
 
@@ -93,7 +93,8 @@ module _ (pass : List ℕ → List Step) where
       → p < passes
       → Toward owners₀ all owners done (passesLeft passes p owners)
       → (length (pass owners) ≡ 0 → ⊥)
-      → Toward owners₀ all (foldl after owners (pass owners)) (done + length (pass owners)) (passesLeft passes (p + 1) (foldl after owners (pass owners)))
+      → Toward owners₀ all (foldl after owners (pass owners)) (done + length (pass owners))
+      (passesLeft passes (p + 1) (foldl after owners (pass owners)))
   unfolding repeat
   repeat-turn owners₀ all passes p owners done h t n =
       let e : passes - p ≡ suc (passes - (p + 1)) = omega arith in

@@ -1,8 +1,9 @@
 // Rule 6: moves.
 ghost use mathlib.Core.Path.{_≡_};
-ghost use Prim.Native.Nat.{ℕ, _+_, _-_, _≤_, _<_};
+ghost use Prim.Native.Nat.{_+_, _≤_, _<_};
 ghost use mathlib.Core.List.{[], _∷_};
 ghost use lib.ListN.{length};
+ghost use lib.Dec.{leb};
 ghost use Rattle.links.specs.Lists.{at};
 ghost use Rattle.links.specs.Parts.{Kept};
 ghost use Rattle.links.specs.Graph.{vertices};
@@ -169,21 +170,36 @@ fn best_offer(work: &[u32], l: HierarchyLevel, scratch: usize, limits: Limits, v
     let mut best = Offer { gain: 0, rank: 0 };
     while i < end {
         let r = owner_at(work, l, i);
-        let o = offer_of(limits.cap, weight, work[scratch + r], work[tallies + r], home, r);
+        let o = offer_of(
+            limits.cap,
+            weight,
+            work[scratch + r],
+            work[tallies + r],
+            home,
+            r,
+        );
         best = better(best, o);
         i += 1;
     }
     best
 }
 
-// Whether v's rank keeps its floor without v.
+// Whether a load less a weight is at least the floor.
+fn keeps_floor(floor: u64, load: u32, weight: u32) -> bool
+    requires { ⌜ weight ≤ load ⌝ }
+    ensures { λ r. ⌜ r ≡ leb (floor + weight) load ⌝ }
+{
+    floor <= wide(load - weight)
+}
+
+// Whether v may leave its rank.
 fn may_leave(work: &[u32], l: HierarchyLevel, scratch: usize, limits: Limits, v: usize) -> bool
     requires { ⌜ Weighed (now work) l scratch (limits .ranks) × (v < l .vertices) ⌝ }
     ensures { λ r. ⌜ r ≡ mayLeave (balanceIn limits) (rowsAt (now (work .entry)) l) (weightsAt (now (work .entry)) l) (ownersAt (now (work .entry)) l) v ⌝ }
 {
     let home = owner_in(work, l, v);
     let weight = weight_in(work, l, v);
-    limits.floor <= wide(work[scratch + home] - weight)
+    keeps_floor(limits.floor, work[scratch + home], weight)
 }
 
 // Where v goes; a gain of 0 if nowhere. The tallies are 0 before and after.
@@ -249,7 +265,13 @@ fn pass(work: &mut [u32], l: HierarchyLevel, scratch: usize, limits: Limits) -> 
 }
 
 // Up to so many passes, ending after one without a move: the number of moves.
-fn all_passes(work: &mut [u32], l: HierarchyLevel, scratch: usize, limits: Limits, passes: u64) -> u64
+fn all_passes(
+    work: &mut [u32],
+    l: HierarchyLevel,
+    scratch: usize,
+    limits: Limits,
+    passes: u64,
+) -> u64
     requires { ⌜ Moving (now work) l scratch (limits .ranks) ⌝ }
     ensures { λ r. ⌜ Stepped (now (work .entry)) (now (work .exit)) l scratch (limits .ranks)
         (movesAt (now (work .entry)) l limits passes) r ⌝ }
@@ -277,8 +299,16 @@ fn check_owners(work: &[u32], l: HierarchyLevel, ranks: usize) -> Assignment
     from_owners(ranks as u32, &work[owners..end])
 }
 
-// Rule 6: moves on a level's owners, then the check of the owners. Two numbers for each rank from scratch on.
-pub fn refine_by_cut(work: &mut [u32], l: HierarchyLevel, scratch: usize, limits: Limits, passes: u64) -> Refined
+// Rule 6: moves on a level's owners, then the check of the owners. It uses two numbers for each rank from scratch on.
+// Rules out: a move that is not made, or not there; a move that leaves a load below the floor or takes one above the cap; a pass after one
+// without a move; a check that is left out.
+pub fn refine_by_cut(
+    work: &mut [u32],
+    l: HierarchyLevel,
+    scratch: usize,
+    limits: Limits,
+    passes: u64,
+) -> Refined
     requires { ⌜ Refinable (now work) l scratch (limits .ranks) ⌝ }
     ensures { λ r. ⌜ RefinedByCut (now (work .entry)) (now (work .exit)) l scratch limits passes r ⌝ }
 {

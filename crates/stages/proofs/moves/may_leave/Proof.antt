@@ -1,59 +1,56 @@
-use Prim.Native.Nat.{ℕ, _+_, _-_, _≤_, _<_}
-use mathlib.Core.Path.{_≡_, refl, sym, ap, _∙_}
+-- The load in the slice is the load of v's rank, of which v's weight is a part. Assumes nothing.
+use Prim.Native.Nat.{_+_, _<_}
+use mathlib.Core.Path.{_∙_}
 use native.Mathlib.Omega.{arith}
-use lib.Dec.{leb}
 use lib.ListN.{length}
 use Rattle.stages.proofs.MovesTurnLaws.{weighed-whole, load-covers, may-leave}
 use borrow.Author.Needs.{needs}
 use Rattle.stages.proofs.moves.may_leave.Statement.{statement}
 use Rattle.stages.proofs.moves.may_leave.Tie as tie
-use Rattle.stages.proofs.moves.may_leave.Reads as reads
-use Rattle.stages.proofs.moves.may_leave.Lts as lts
-use Rattle.links.proofs.wide.Reads as wide-reads
-use Rattle.stages.proofs.moves.owner_in.Reads as owner-in-reads
-use Rattle.stages.proofs.moves.weight_in.Reads as weight-in-reads
 
 -- its rank is a rank
 within : (c : tie.After-owner-in) → c .owner-in .result < c .before .before .args .limits .ranks
 within c = let s = c .before .before in rw (c .owner-in .ensures) (s .pre .0 .ranked (s .args .v) (s .pre .1))
 
-
--- src/moves.rt:181:9
 owner-in-requires : tie.Need-owner-in-requires
 owner-in-requires c κs = (weighed-whole (c .before .pre .0), c .before .pre .1)
 
--- src/moves.rt:182:9
 weight-in-requires : tie.Need-weight-in-requires
 weight-in-requires c κs = (weighed-whole (c .before .before .pre .0), c .before .before .pre .1)
 
--- src/moves.rt:183:31
-add-wide : tie.Need-add-wide
-add-wide c = let h = within (c .before) in record { fits = omega (arith, c .before .before .before .pre .0 .room, c .before .before .before .good .0 .0) }
+add-keeps-floor : tie.Need-add-keeps-floor
+add-keeps-floor c =
+    let c3 = c .before .before .before in
+    let h = within (c .before) in record { fits = omega (arith, c3 .pre .0 .room, c3 .good .0 .0) }
 
--- src/moves.rt:183:26
-mul-wide : tie.Need-mul-wide
-mul-wide c =
-    let h : c .before .before .before .args .scratch + c .before .owner-in .result < length (c .before .before .before .args .work .now) = (let k = within (c .before) in omega (arith, c .before .before .before .pre .0 .room)) in
+mul-keeps-floor : tie.Need-mul-keeps-floor
+mul-keeps-floor c =
+    let c3 = c .before .before .before in
+    let h : c3 .args .scratch + c .before .owner-in .result < length (c3 .args .work .now) = (let k = within (c .before) in
+    omega (arith, c3 .pre .0 .room)) in
     search needs
 
--- src/moves.rt:183:26
-shared-slice-read-wide : tie.Need-shared-slice-read-wide
-shared-slice-read-wide c = let h = within (c .before .before) in omega (arith, c .before .before .before .before .pre .0 .room)
+shared-slice-read-keeps-floor : tie.Need-shared-slice-read-keeps-floor
+shared-slice-read-keeps-floor c =
+    let c2 = c .before .before in
+    let c4 = c2 .before .before in
+    let h = within c2 in omega (arith, c4 .pre .0 .room)
 
--- src/moves.rt:183:26
-sub-wide : tie.Need-sub-wide
-sub-wide c = load-covers (c .before .before .before .before .pre .0) (c .before .before .before .before .args .v) (c .before .before .before .before .pre .1) (c .before .before .owner-in .result) (c .before .weight-in .result) (c .before .before .owner-in .ensures) (c .before .weight-in .ensures)
+keeps-floor-requires : tie.Need-keeps-floor-requires
+keeps-floor-requires c κs =
+    let c2 = c .before .before in
+    let c4 = c2 .before .before in
+    load-covers (c4 .pre .0) (c4 .args .v) (c4 .pre .1) (c2 .owner-in .result) (c .before .weight-in .result) (c2 .owner-in .ensures)
+    (c .before .weight-in .ensures)
 
--- src/moves.rt:183:21
-wide-requires : tie.Need-wide-requires
-wide-requires c κs = search needs
-
--- src/moves.rt:177:1
 returns : tie.Need-returns
 returns c =
-    let s = c .before .before .before .before .before .before in
-    ap (leb (s .args .limits .floor)) (c .before .wide .ensures)
-    ∙ may-leave (s .pre .0) (s .args .v) (s .pre .1) (s .args .limits) (c .before .before .before .before .owner-in .result) (c .before .before .before .weight-in .result) (c .before .before .before .before .owner-in .ensures) (c .before .before .before .weight-in .ensures)
+    let c2 = c .before .before in
+    let c3 = c2 .before in
+    let s = c3 .before .before in
+    c .keeps-floor .ensures
+    ∙ may-leave (s .pre .0) (s .args .v) (s .pre .1) (s .args .limits) (c3 .owner-in .result) (c2 .weight-in .result) (c3 .owner-in .ensures)
+    (c2 .weight-in .ensures)
 
 pub may-leave-spec : {M : Type 1} → statement M
 may-leave-spec =
@@ -61,9 +58,8 @@ may-leave-spec =
     (tie.spec
     owner-in-requires
     weight-in-requires
-    add-wide
-    mul-wide
-    shared-slice-read-wide
-    sub-wide
-    wide-requires
+    add-keeps-floor
+    mul-keeps-floor
+    shared-slice-read-keeps-floor
+    keeps-floor-requires
     returns)
