@@ -1,5 +1,6 @@
 // The driver: rule 8 of document 01, over the promises of links and stages.
 mod file;
+mod season;
 
 pub use file::Read;
 pub use file::Sizes;
