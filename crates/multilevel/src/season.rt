@@ -12,11 +12,7 @@ pub extern "C" fn hipstern_load_cap(total: u64, ranks: u32, imbalance_per_mille:
 }
 
 #[no_mangle]
-pub extern "C" fn hipstern_minimum_load(
-    total: u64,
-    ranks: u32,
-    imbalance_per_mille: u32,
-) -> u64
+pub extern "C" fn hipstern_minimum_load(total: u64, ranks: u32, imbalance_per_mille: u32) -> u64
     ensures { λ r. ⌜ r ≡ minimumLoad total ranks «imbalance_per_mille» ⌝ }
 {
     links::minimum_load(total, ranks, imbalance_per_mille)
