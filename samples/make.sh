@@ -12,7 +12,7 @@ numbers() {
     printf -v four '\\x%02x' $((x & 255)) $((x >> 8 & 255)) $((x >> 16 & 255)) $((x >> 24 & 255))
     text+=$four
   done
-  printf "$text" >"$folder/$name.links"
+  printf '%b' "$text" >"$folder/$name.links"
 }
 
 # site NAME N K MAX_LEVELS PER_RANK IMBALANCE PASSES LINK..: a site's file; a link is LOW-HIGH
