@@ -4,6 +4,7 @@ use mathlib.Core.Path.{_≡_, refl, sym, ap, _∙_}
 use mathlib.Core.Bool.{Bool, true, false, not, _&&_, _||_, cond, false≢true}
 use mathlib.Core.List.{List, [], _∷_, _++_, append-assoc}
 use native.Mathlib.Omega.{arith}
+use native.Mathlib.Numerals.{add-one}
 use lib.ListN.{length}
 use lib.Dec.{ltb, eqb}
 use borrow.Author.Tests.{lt-ltb, le-ltb, ltb-true, ne-eqb, eqb-true, eqb-false}
@@ -14,10 +15,6 @@ use Rattle.links.proofs.ListLaws.{split, all-of, all-to, all-in}
 pub filter-ext : (p q : ℕ → Bool) (i n : ℕ) → ((x : ℕ) → i ≤ x → x < i + n → p x ≡ q x) → filter p (range i n) ≡ filter q (range i n)
 filter-ext p q i zero e = refl
 filter-ext p q i (suc n) e = rw (e i (omega arith) (omega arith), filter-ext p q (suc i) n (λ x h k. e x (omega arith) (omega arith)))
-
-pub any-ext : (p q : ℕ → Bool) (i n : ℕ) → ((x : ℕ) → i ≤ x → x < i + n → p x ≡ q x) → any p (range i n) ≡ any q (range i n)
-any-ext p q i zero e = refl
-any-ext p q i (suc n) e = rw (e i (omega arith) (omega arith), any-ext p q (suc i) n (λ x h k. e x (omega arith) (omega arith)))
 
 -- one more at the end
 pub range-snoc : (i n m : ℕ) → m ≡ i + n → range i (suc n) ≡ range i n ++ (m ∷ [])
@@ -105,3 +102,18 @@ rising-filter (suc n) i (x ∷ xs) r a = split (all (ltb x) xs)
     above : (ys : List ℕ) → All (λ y. (i ≤ y) × (y < i + suc n)) ys → All (λ y. x < y) ys → All (λ y. (suc i ≤ y) × (y < suc i + n)) ys
     above [] b c = tt
     above (y ∷ ys) b c = ((omega (arith, a .0 .0, c .0), omega (arith, b .0 .1)), above ys (b .1) (c .1))
+
+-- ---- a test over a range, place by place
+
+module _ (p : ℕ → Bool) (k i : ℕ) (h : i < k) where
+  all-head : all p (range i (k - i)) ≡ cond (p i) (all p (range (i + 1) (k - (i + 1)))) false
+  all-head = let e : k - i ≡ suc (k - (i + 1)) = omega arith in rw (e, add-one)
+
+  pub all-more : p i ≡ true → all p (range (i + 1) (k - (i + 1))) ≡ all p (range i (k - i))
+  all-more e = sym (all-head ∙ rw e)
+
+  pub all-ends : p i ≡ false → false ≡ all p (range i (k - i))
+  all-ends e = sym (all-head ∙ rw e)
+
+pub all-done : (p : ℕ → Bool) (k i : ℕ) → k ≤ i → all p (range i (k - i)) ≡ true
+all-done p k i h = let e : k - i ≡ 0 = omega arith in rw e

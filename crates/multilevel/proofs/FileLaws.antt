@@ -4,7 +4,6 @@ use mathlib.Core.Path.{_≡_, refl, sym, ap, _∙_}
 use mathlib.Core.Bool.{Bool, true, false, not, _&&_, _||_, cond}
 use mathlib.Core.List.{List, [], _∷_, _++_, map}
 use native.Mathlib.Omega.{arith}
-use native.Mathlib.Numerals.{add-one}
 use lib.ListN.{length}
 use lib.Dec.{ltb, eqb}
 use borrow.Author.Tests.{ltb-false, eqb-true, lt-ltb, le-ltb, eq-eqb, ne-eqb}
@@ -41,21 +40,6 @@ module _ (b : List ℕ) (i n x y : ℕ) (en : n ≡ vertexCountOf b) (ex : x ≡
   pub link-later : x < y → y < n → (i ≡ 0 → ⊥) → (r : Bool) → r ≡ linkBefore b (i - 1) i → r ≡ goodLink b i
   unfolding goodLink
   link-later h k e r q = rw (lt-ltb (lowEnd b i) (highEnd b i) (omega arith), lt-ltb (highEnd b i) (vertexCountOf b) (omega arith), ne-eqb i 0 e) q
-
--- ---- a test over a range, place by place
-
-module _ (p : ℕ → Bool) (k i : ℕ) (h : i < k) where
-  all-head : all p (range i (k - i)) ≡ cond (p i) (all p (range (i + 1) (k - (i + 1)))) false
-  all-head = let e : k - i ≡ suc (k - (i + 1)) = omega arith in rw (e, add-one)
-
-  pub all-more : p i ≡ true → all p (range (i + 1) (k - (i + 1))) ≡ all p (range i (k - i))
-  all-more e = sym (all-head ∙ rw e)
-
-  pub all-ends : p i ≡ false → false ≡ all p (range i (k - i))
-  all-ends e = sym (all-head ∙ rw e)
-
-pub all-done : (p : ℕ → Bool) (k i : ℕ) → k ≤ i → all p (range i (k - i)) ≡ true
-all-done p k i h = let e : k - i ≡ 0 = omega arith in rw e
 
 -- ---- the check's answers
 

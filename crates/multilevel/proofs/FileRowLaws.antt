@@ -13,8 +13,8 @@ use lib.Dec.{ltb, eqb}
 use borrow.Author.Tests.{lt-ltb, le-ltb, eq-eqb, ne-eqb, ltb-true, ltb-false, eqb-true, eqb-false}
 use Rattle.links.specs.Lists.{at, All, filter, any, all, range, elem, concatMap}
 use Rattle.links.specs.Graph.{row, strictlyRising, rowsOf, offsetsFrom, packed, Sound, SoundLists}
-use Rattle.links.proofs.ListLaws.{split, eqb-sym, and-l, and-r, or-l, or-r, iff-eq, all-of, all-to, all-in, all-append, all-filter, all-range, elem-filter, elem-range, elem-concat, length-range, total, total-ext, total-add, total-zero, total-point}
-use Rattle.links.proofs.RangeLaws.{filter-ext, any-ext, range-snoc, concat-append, filter-rises, rises-snoc, rising-filter}
+use Rattle.links.proofs.ListLaws.{split, any-ext, eqb-sym, and-l, and-r, or-l, or-r, iff-eq, all-of, all-to, all-in, all-append, all-filter, all-range, elem-filter, elem-range, elem-concat, length-range, total, total-ext, total-add, total-zero, total-point}
+use Rattle.links.proofs.RangeLaws.{filter-ext, range-snoc, concat-append, filter-rises, rises-snoc, rising-filter}
 use Rattle.links.proofs.RowLaws.{getD-map-range}
 use Rattle.links.proofs.PackLaws.{sound-packed, rows-packed}
 use Rattle.multilevel.specs.File.{lowEnd, highEnd, linkBefore, goodLink, goodLinks, vertexCountOf, linkCountOf, linkedIn, fileRow, fileRows, fileOffsets, fileNeighbors, otherEnd, rowUpTo}

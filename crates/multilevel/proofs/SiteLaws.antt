@@ -16,5 +16,13 @@ use Rattle.multilevel.specs.Sites.{swapsOn, found, stated, byHand, early
 
 -- every definition of rules 1 to 8 is opened, and each side computes to the same table
 pub by-hand : (map found byHand ≡ map stated byHand) × (map found early ≡ map stated early)
-unfolding byHand early swapsOn share loadCap minimumLoad balance neighborsCause neighborsOf rowsOf badOffsets goodRow badLists linksIn load owned cutEntries foreignNeighbors volume badRanks tooMany strayOwner emptyRank fromOwners badOptions stopSize byDegree shared closer partner grouped match unmatched pairing coarseRow coarsenOnce spread spreadFrom distances farther nextSeed farthestSeeds fits afterChoice pop restart claimed chosen turn round rounds seedOwners seeded weightedMultisource grown restartCount after linked gain repeat mayLeave mayJoin preferred target destination movePass refineByCut ahead candidates sooner propose proposals allProposals inBalance applies swapPass refineFinePairSwaps badCounts overLimits workNeed tooShort earlyCause coarsenings refine grow solve statsOf abtmMultilevelPartition division
+unfolding byHand early swapsOn
+    share loadCap minimumLoad balance neighborsCause neighborsOf rowsOf badOffsets goodRow badLists linksIn load owned cutEntries foreignNeighbors volume
+    badRanks tooMany strayOwner emptyRank fromOwners badOptions stopSize
+    byDegree shared closer partner grouped match unmatched pairing coarseRow coarsenOnce
+    spread spreadFrom distances farther nextSeed farthestSeeds
+    fits afterChoice pop restart claimed chosen turn round rounds seedOwners seeded weightedMultisource grown restartCount
+    after linked gain repeat mayLeave mayJoin preferred target destination movePass refineByCut
+    ahead candidates sooner propose proposals allProposals inBalance applies swapPass refineFinePairSwaps
+    badCounts overLimits workNeed tooShort earlyCause coarsenings refine grow solve statsOf abtmMultilevelPartition division
 by-hand = (refl, refl)

@@ -18,6 +18,7 @@ pub record Site : Type 0 where
   pub n : ℕ
   pub links : List (ℕ × ℕ)
 
+-- its rows, and offsets into them put one after the other
 abbrev pub rowsIn : Site → List (List ℕ)
 rowsIn s =
     map
@@ -56,12 +57,14 @@ site s k o =
 
 -- ---- claims
 
+-- what is asked and what comes out
 pub data Claim : Type 0 where
   -- a division ends so
   ends : Call → Outcome → Claim
   -- rule 7 alone, on a site with k ranks, tolerance t, passes and owners: so many swaps, and the owners that they leave
   swaps : Site → ℕ → ℕ → ℕ → List ℕ → ℕ → List ℕ → Claim
 
+-- the swaps that rule 7 makes there
 unfoldable pub swapsOn : Site → ℕ → ℕ → ℕ → List ℕ → List Step
 swapsOn s k t passes owners =
     let weights = finestWeights (rowsIn s) in
@@ -121,6 +124,7 @@ alone = record { n = 4; links = [] }
 abbrev pub crossed : Site
 crossed = record { n = 4; links = (0, 2) ∷ (1, 3) ∷ [] }
 
+-- every case of the list, starred or not
 unfoldable pub byHand : List Claim
 byHand =
     ends (site P4 2 (12, 64, 30, 2)) (divided (0 ∷ 0 ∷ 1 ∷ 1 ∷ []) (stats 0 4 0 0 0 0 2 2))
@@ -147,6 +151,7 @@ pairOffsets = 0 ∷ 1 ∷ 2 ∷ []
 abbrev pub pair : List ℕ
 pair = 1 ∷ 0 ∷ []
 
+-- by cause, in table order
 unfoldable pub early : List Claim
 early =
     -- L, per crew or passes 0, t above 500

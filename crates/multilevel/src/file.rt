@@ -137,6 +137,7 @@ fn links_good(b: &[u8], e: usize, vertices: u32) -> bool
 }
 
 // The file check: 0, or 10, or 3.
+// Rules out: a file with one byte more; links in rising order of their low ends alone.
 pub fn link_file_cause(b: &[u8]) -> u32
     ensures { λ r. ⌜ r ≡ fileCause (now (b .entry)) ⌝ }
 {
@@ -203,6 +204,7 @@ fn write_rows(b: &[u8], e: usize, n: usize, offsets: &mut [u32], neighbors: &mut
 }
 
 // The reader: the sizes and options, and n + 1 offsets and 2e neighbors written; or 10, 3 or 5 and nothing written.
+// Rules out: each link written from one end only; an output changed by a refusal.
 pub fn read_link_file(b: &[u8], offsets: &mut [u32], neighbors: &mut [u32]) -> Read
     ensures { λ r. ⌜ FileRead (now (b .entry)) (now (offsets .entry)) (now (neighbors .entry)) (now (offsets .exit)) (now (neighbors .exit)) r ⌝ }
 {

@@ -3,7 +3,7 @@ use mathlib.Core.Path.{_≡_, sym, refl, _∙_}
 use native.Mathlib.Omega.{arith}
 use Rattle.links.specs.Lists.{all, range}
 use Rattle.multilevel.specs.File.{goodLink, goodLinks, linkCountOf}
-use Rattle.multilevel.proofs.FileLaws.{all-more, all-ends, all-done}
+use Rattle.links.proofs.RangeLaws.{all-more, all-ends, all-done}
 use borrow.Author.Needs.{needs}
 use Rattle.multilevel.proofs.file.links_good.Statement.{statement}
 use Rattle.multilevel.proofs.file.links_good.Tie as tie
