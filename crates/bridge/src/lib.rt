@@ -3,6 +3,8 @@ use links::AbtmMultilevelOptions;
 use links::Assignment;
 use links::Count;
 use links::Owner;
+use multilevel::Read;
+use multilevel::Sizes;
 ghost use mathlib.Core.Path.{_≡_};
 ghost use mathlib.Core.Bool.{cond};
 ghost use lib.ListN.{length};
@@ -12,6 +14,8 @@ ghost use Rattle.links.specs.Loads.{loadCap, minimumLoad};
 ghost use Rattle.links.specs.Options.{optionsCause};
 ghost use Rattle.links.specs.Graph.{owned, neighborsCause, neighborsOf, listsCause};
 ghost use Rattle.links.specs.Owners.{fromOwners, ownerCause, countCause};
+ghost use Rattle.multilevel.specs.File.{fileCause};
+ghost use Rattle.bridge.specs.LinkFile.{headerOf, ReadAsNumbers};
 
 #[no_mangle]
 pub extern "C" fn bridge_load_cap(total: u64, ranks: u32, imbalance_per_mille: u32) -> u64
@@ -125,4 +129,50 @@ pub extern "C" fn bridge_lists_cause(offsets: &[u32], neighbors: &[u32]) -> u32
     ensures { λ r. ⌜ r ≡ listsCause (now (offsets .entry)) (now (neighbors .entry)) ⌝ }
 {
     links::lists_cause(offsets, neighbors)
+}
+
+// 0, or the refusal.
+#[no_mangle]
+pub extern "C" fn bridge_link_file_cause(file: &[u8]) -> u32
+    ensures { λ r. ⌜ r ≡ fileCause (now (file .entry)) ⌝ }
+{
+    multilevel::link_file_cause(file)
+}
+
+// The seven numbers of a header, in its order.
+fn header_of(s: Sizes) -> [u64; 7]
+    ensures { λ r. ⌜ r ≡ headerOf s ⌝ }
+{
+    let o = s.options;
+    [
+        links::wide(s.vertices),
+        links::wide(s.links),
+        links::wide(s.ranks),
+        o.max_levels,
+        o.coarse_vertices_per_rank,
+        o.imbalance_per_mille,
+        o.refinement_passes,
+    ]
+}
+
+// 0, or the refusal; the header's seven numbers, or zeros, are written.
+#[no_mangle]
+pub extern "C" fn bridge_read_link_file(
+    file: &[u8],
+    offsets: &mut [u32],
+    neighbors: &mut [u32],
+    header: &mut [u64; 7],
+) -> u32
+    ensures { λ r. ⌜ ReadAsNumbers (now (file .entry)) (now (offsets .entry)) (now (neighbors .entry)) (now (offsets .exit)) (now (neighbors .exit)) (now (header .exit)) r ⌝ }
+{
+    match multilevel::read_link_file(file, offsets, neighbors) {
+        Read::Site(sizes) => {
+            *header = header_of(sizes);
+            0
+        }
+        Read::Refused(number) => {
+            *header = [0; 7];
+            number
+        }
+    }
 }

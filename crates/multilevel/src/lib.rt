@@ -6,6 +6,7 @@ mod lay;
 mod room;
 mod takeover;
 mod writeback;
+mod season;
 
 pub use driver::Answer;
 pub use causes::early_cause;

@@ -44,12 +44,22 @@ mod exported {
             neighbors: *const u32,
             neighbors_len: usize,
         ) -> u32;
+        pub fn bridge_link_file_cause(file: *const u8, file_len: usize) -> u32;
+        pub fn bridge_read_link_file(
+            file: *const u8,
+            file_len: usize,
+            offsets: *mut u32,
+            offsets_len: usize,
+            neighbors: *mut u32,
+            neighbors_len: usize,
+            header: *mut [u64; 7],
+        ) -> u32;
     }
 }
 use exported::*;
 
 // SAFETY, of each call below: the archive's functions demand nothing and read only the slices that are passed with their
-// lengths, which outlive the call; what they write is one number behind a `&mut`.
+// lengths, which outlive the call; what they write lies behind a `&mut`, or in a slice that is lent as such.
 
 pub fn load_cap(total: u64, ranks: u32, t: u32) -> u64 {
     unsafe { bridge_load_cap(total, ranks, t) }
@@ -95,4 +105,18 @@ pub fn neighbors_of(offsets: &[u32], neighbors: &[u32], v: u64) -> (u32, Vec<u32
 pub fn lists_cause(offsets: &[u32], neighbors: &[u32]) -> u32 {
     let ((op, on), (np, nn)) = (lent!(offsets), lent!(neighbors));
     unsafe { bridge_lists_cause(op, on, np, nn) }
+}
+
+pub fn link_file_cause(file: &[u8]) -> u32 {
+    let (p, n) = lent!(file);
+    unsafe { bridge_link_file_cause(p, n) }
+}
+
+/// The number and the header's seven, which are not 0 before the call.
+pub fn read_link_file(file: &[u8], offsets: &mut [u32], neighbors: &mut [u32]) -> (u32, [u64; 7]) {
+    let (p, n) = lent!(file);
+    let ((op, on), (np, nn)) = ((offsets.as_mut_ptr(), offsets.len()), (neighbors.as_mut_ptr(), neighbors.len()));
+    let mut header = [77; 7];
+    let number = unsafe { bridge_read_link_file(p, n, op, on, np, nn, &mut header) };
+    (number, header)
 }
