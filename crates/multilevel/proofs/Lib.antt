@@ -9,3 +9,4 @@ pub mod FileWriteLaws
 pub mod FileReadLaws
 pub mod RoomLaws
 pub mod LayLaws
+pub mod MeasureLaws

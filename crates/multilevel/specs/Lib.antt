@@ -4,3 +4,4 @@ pub mod Demand3
 pub mod Sites
 pub mod File
 pub mod Room
+pub mod Measure

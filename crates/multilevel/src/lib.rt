@@ -2,6 +2,7 @@
 mod causes;
 mod file;
 mod lay;
+mod measure;
 mod room;
 mod takeover;
 mod writeback;
@@ -13,6 +14,8 @@ pub use file::Sizes;
 pub use file::link_file_cause;
 pub use file::read_link_file;
 pub use lay::lay_site;
+pub use measure::Measures;
+pub use measure::measure_level;
 pub use room::level_at;
 pub use room::moved_up;
 pub use room::sized;
