@@ -15,3 +15,4 @@ pub mod LayLaws
 pub mod PlaceLaws
 pub mod DescentLaws
 pub mod CallLaws
+pub mod MeasureLaws

@@ -7,3 +7,4 @@ pub mod Contract
 pub mod Driver
 pub mod Room
 pub mod DriverCode
+pub mod Measure

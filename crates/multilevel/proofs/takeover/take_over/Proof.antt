@@ -27,13 +27,13 @@ index-requires : tie.Need-index-requires Inv-loop μ-loop
 index-requires c κs = search needs
 
 add-work : tie.Need-add-work Inv-loop μ-loop
-add-work c = omega (arith, group-in (c .before .before .before .before .before .args .work .now) (c .before .before .before .before .before .args .l) (c .before .before .before .before .before .args .coarse) (c .before .before .before .before .before .pre) (c .before .before .before .loop .v) (c .before .before .loop-test .taken), group-read (c .before .before .before .before .before .args .work .now) (c .before .before .before .before .before .args .l) (c .before .before .before .before .before .args .coarse) (c .before .before .before .before .before .pre) (c .before .before .before .loop .work) (c .before .before .before .loop .v) (c .before .before .before .loop .inv .0) (c .before .before .loop-test .taken))
+add-work c = omega (arith, group-in _ _ _ (c .before .before .before .before .before .pre) (c .before .before .before .loop .v) (c .before .before .loop-test .taken), group-read _ _ _ (c .before .before .before .before .before .pre) (c .before .before .before .loop .work) (c .before .before .before .loop .v) (c .before .before .before .loop .inv .0) (c .before .before .loop-test .taken))
 
 mul-work : tie.Need-mul-work Inv-loop μ-loop
-mul-work c = omega (arith, group-in (c .before .before .before .before .before .args .work .now) (c .before .before .before .before .before .args .l) (c .before .before .before .before .before .args .coarse) (c .before .before .before .before .before .pre) (c .before .before .before .loop .v) (c .before .before .loop-test .taken), group-read (c .before .before .before .before .before .args .work .now) (c .before .before .before .before .before .args .l) (c .before .before .before .before .before .args .coarse) (c .before .before .before .before .before .pre) (c .before .before .before .loop .work) (c .before .before .before .loop .v) (c .before .before .before .loop .inv .0) (c .before .before .loop-test .taken))
+mul-work c = omega (arith, group-in _ _ _ (c .before .before .before .before .before .pre) (c .before .before .before .loop .v) (c .before .before .loop-test .taken), group-read _ _ _ (c .before .before .before .before .before .pre) (c .before .before .before .loop .work) (c .before .before .before .loop .v) (c .before .before .before .loop .inv .0) (c .before .before .loop-test .taken))
 
 slice-read-work : tie.Need-slice-read-work Inv-loop μ-loop
-slice-read-work c = omega (arith, group-in (c .before .before .before .before .before .before .args .work .now) (c .before .before .before .before .before .before .args .l) (c .before .before .before .before .before .before .args .coarse) (c .before .before .before .before .before .before .pre) (c .before .before .before .before .loop .v) (c .before .before .before .loop-test .taken), group-read (c .before .before .before .before .before .before .args .work .now) (c .before .before .before .before .before .before .args .l) (c .before .before .before .before .before .before .args .coarse) (c .before .before .before .before .before .before .pre) (c .before .before .before .before .loop .work) (c .before .before .before .before .loop .v) (c .before .before .before .before .loop .inv .0) (c .before .before .before .loop-test .taken), c .before .before .before .before .loop .inv .0 .frame .same-length)
+slice-read-work c = omega (arith, group-in _ _ _ (c .before .before .before .before .before .before .pre) (c .before .before .before .before .loop .v) (c .before .before .before .loop-test .taken), group-read _ _ _ (c .before .before .before .before .before .before .pre) (c .before .before .before .before .loop .work) (c .before .before .before .before .loop .v) (c .before .before .before .before .loop .inv .0) (c .before .before .before .loop-test .taken), c .before .before .before .before .loop .inv .0 .frame .same-length)
 
 add-work-2 : tie.Need-add-work-2 Inv-loop μ-loop
 add-work-2 c = search needs
@@ -51,13 +51,13 @@ loop-less : tie.Need-loop-less Inv-loop μ-loop
 loop-less c = omega arith
 
 loop-again : tie.Need-loop-again Inv-loop μ-loop
-loop-again c = rw (c .before .index .ensures) (taking-more (c .before .before .before .before .before .before .args .work .now) (c .before .before .before .before .before .before .args .l) (c .before .before .before .before .before .before .args .coarse) (c .before .before .before .before .before .before .pre) (c .before .before .before .before .loop .work) (c .before .before .before .before .loop .v) (c .before .before .before .before .loop .inv .0) (c .before .before .before .loop-test .taken), omega arith)
+loop-again c = rw (c .before .index .ensures) (taking-more _ _ _ (c .before .before .before .before .before .before .pre) (c .before .before .before .before .loop .work) (c .before .before .before .before .loop .v) (c .before .before .before .before .loop .inv .0) (c .before .before .before .loop-test .taken), omega arith)
 
 same-length : tie.Need-same-length Inv-loop μ-loop
 same-length c = c .before .loop .inv .0 .frame .same-length
 
 returns : tie.Need-returns Inv-loop μ-loop
-returns c = taking-all (c .before .before .before .args .work .now) (c .before .before .before .args .l) (c .before .before .before .args .coarse) (c .before .before .before .pre) (c .before .loop .work) (c .before .loop .v) (c .before .loop .inv .0) (c .loop-test .left)
+returns c = taking-all _ _ _ (c .before .before .before .pre) (c .before .loop .work) (c .before .loop .v) (c .before .loop .inv .0) (c .loop-test .left)
 
 pub take-over-spec : {M : Type 1} → statement M
 take-over-spec =
