@@ -28,24 +28,7 @@ use Rattle.multilevel.specs.declared.driver.Answer.the-variants.{Divided
 use Rattle.multilevel.specs.declared.driver.Rules.{Rules}
 use Rattle.multilevel.specs.Driver.{movesFrom, movedFrom, answerFor}
 use Rattle.multilevel.specs.DriverCode.{Placed, Refining, LevelRefined}
-
-pub ready-wider : (w : List ℕ) (l : HierarchyLevel) (e f : ℕ) → Ready w l e → e ≤ f → f ≤ length w → Ready w l f
-ready-wider w l e f r h k =
-    record {
-      laid =
-          record {
-            offsets-in = r .laid .offsets-in;
-            neighbors-in = r .laid .neighbors-in;
-            weights-in = r .laid .weights-in;
-            map-in = r .laid .map-in;
-            owners-in = omega (arith, r .laid .owners-in);
-          };
-      inside = k;
-      lists = r .lists;
-      few = r .few;
-      short = r .short;
-      light = r .light;
-    }
+use Rattle.multilevel.proofs.RoomLaws.{ready-wide}
 
 -- the room of one level and of `left` more
 pub rooms : (left unit : ℕ) → (left + 1) * unit ≡ left * unit + unit
@@ -56,7 +39,7 @@ module _ (w : List ℕ) (l : HierarchyLevel) (q : Rules) (left : ℕ) (p : Place
   placed-below = omega (arith, p .above, rooms left (q .unit))
 
   pub placed-ready : Ready w l (q .scratch)
-  placed-ready = ready-wider w l (l .offsets + q .unit) (q .scratch) (p .ready) placed-below (omega (arith, p .room))
+  placed-ready = ready-wide w l (l .offsets + q .unit) (q .scratch) placed-below (omega (arith, p .room)) (p .ready)
 
   pub placed-last : Placed w l q 0
   placed-last =
