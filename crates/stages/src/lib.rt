@@ -2,7 +2,7 @@
 mod coarsen;
 mod level;
 
-pub use coarsen::coarsen_once_cached;
 pub use coarsen::Coarsened;
+pub use coarsen::coarsen_once_cached;
 pub use level::HierarchyLevel;
 pub use level::Limits;
