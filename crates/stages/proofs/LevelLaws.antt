@@ -10,6 +10,7 @@ use Rattle.links.specs.Graph.{row, degree, vertexCount}
 use Rattle.links.proofs.PartLaws.{length-part, kept-part-before}
 use Rattle.links.proofs.RowLaws.{length-rows, length-row, row-below, offsets-fit}
 use Rattle.stages.specs.Level.{offsetsAt, neighborsAt, rowsAt, weightsAt, groupAt, Laid, Ready}
+use Rattle.stages.specs.CoarsenCode.{resized}
 use Rattle.stages.specs.declared.level.HierarchyLevel.{HierarchyLevel}
 
 module _ (w : List ℕ) (l : HierarchyLevel) (end : ℕ) (r : Ready w l end) where
@@ -73,3 +74,17 @@ module _ (w w′ : List ℕ) (l : HierarchyLevel) (end a e : ℕ) (laid : Laid l
     short = r .short;
     light = rw weights-kept (r .light);
   }
+
+-- the same level, said to end elsewhere
+pub ready-until : (w : List ℕ) (l : HierarchyLevel) (end e : ℕ) → Ready w l end → Laid l e → e ≤ length w → Ready w l e
+ready-until w l end e r laid h = record { laid = laid; inside = h; lists = r .lists; few = r .few; short = r .short; light = r .light }
+
+-- a smaller level at the same places
+pub laid-resized : (l : HierarchyLevel) (end n m : ℕ) → Laid l end → n ≤ l .vertices → m ≤ l .entries → Laid (resized l n m) end
+laid-resized l end n m laid h k = record {
+  offsets-in = omega (arith, laid);
+  neighbors-in = omega (arith, laid);
+  weights-in = omega (arith, laid);
+  map-in = omega (arith, laid);
+  owners-in = omega (arith, laid);
+}
