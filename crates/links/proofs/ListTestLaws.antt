@@ -75,16 +75,20 @@ module _ (f : ℕ → ℕ) (grows : (x : ℕ) → x ≤ f x) where
       (λ p. rw (le-leb b x h, p, all-leb b (f x) xs (omega (arith, grows x)) p))
       (λ p. rw (le-leb b x h, p) (and-false (all (leb b) xs)))
 
-  -- at place i it goes on, or is too low; and the end
+  -- at place i it goes on
   pub apart-next : (b : ℕ) (xs : List ℕ) (i : ℕ) → i < length xs → b ≤ at xs i → apartFrom f (f (at xs i)) (drop (i + 1) xs) ≡ apartFrom f b (drop i xs)
   apart-next b xs i h k = sym (rw (add-one, drop-cons xs i 0 h) (from-cons b (at xs i) (drop (suc i) xs) k))
 
+module _ (f : ℕ → ℕ) where
+  -- it is too low there
   pub apart-fails : (b : ℕ) (xs : List ℕ) (i : ℕ) → i < length xs → at xs i < b → apartFrom f b (drop i xs) ≡ false
   apart-fails b xs i h k = rw (all-fails (leb b) xs i (at xs i) h refl (lt-leb b (at xs i) k))
 
+  -- it is at the end
   pub apart-end : (b : ℕ) (xs : List ℕ) (i : ℕ) → length xs ≤ i → apartFrom f b (drop i xs) ≡ true
   apart-end b xs i h = rw (drop-of-length-le xs h)
 
+-- from the start
 apart-start : (f : ℕ → ℕ) (xs : List ℕ) → apartFrom f 0 xs ≡ apart f xs
 apart-start f xs = rw (low xs)
   where
@@ -110,6 +114,7 @@ module _ (n v : ℕ) where
   unfolding validRow
   valid-start xs = rw (apart-start suc xs, strict-apart xs)
 
+  -- at place i it goes on; is too low; is n or more, or v; and the end
   pub valid-next
       : (b : ℕ) (xs : List ℕ) (i : ℕ)
       → i < length xs → b ≤ at xs i → at xs i < n → (at xs i ≡ v → ⊥)
@@ -120,7 +125,7 @@ module _ (n v : ℕ) where
       rw (s, apart-next suc (λ x. omega arith) b xs i h k, all-next (λ u. ltb u n && not (eqb u v)) xs i (at xs i) h refl e)
 
   pub valid-low : (b : ℕ) (xs : List ℕ) (i : ℕ) → i < length xs → at xs i < b → validFrom n v b (drop i xs) ≡ false
-  valid-low b xs i h k = rw (apart-fails suc (λ x. omega arith) b xs i h k)
+  valid-low b xs i h k = rw (apart-fails suc b xs i h k)
 
   pub valid-stray : (b : ℕ) (xs : List ℕ) (i : ℕ) → i < length xs → (ltb (at xs i) n && not (eqb (at xs i) v)) ≡ false → validFrom n v b (drop i xs) ≡ false
   valid-stray b xs i h e = rw (all-fails (λ u. ltb u n && not (eqb u v)) xs i (at xs i) h refl e) (and-false (apartFrom suc b (drop i xs)))
@@ -148,6 +153,7 @@ and-assoc true b c = refl
 and-assoc false b c = refl
 
 module _ (o l : List ℕ) where
+  -- a row by itself, and against the others
   good-row : (v : ℕ) → goodRow (rowsOf o l) v ≡ (validRow (vertexCount o) v (neighborsOf o l v) && mirroredRow o l v)
   unfolding goodRow validRow mirroredRow
   good-row v =
@@ -160,7 +166,7 @@ module _ (o l : List ℕ) where
       ∙ all-and (λ u. ltb u n && not (eqb u v)) (λ u. elem v (neighborsOf o l u)) r)
       ∙ sym (and-assoc (strictlyRising r) (all (λ u. ltb u n && not (eqb u v)) r) (all (λ u. elem v (neighborsOf o l u)) r)))
 
-  -- cause 4's test
+  -- cause 4's test of the rows, in two rounds
   pub two-rounds : badLists o l ≡ (badOffsets o (length l) || not (validRows o l && mirroredRows o l))
   unfolding badLists validRows mirroredRows
   two-rounds =

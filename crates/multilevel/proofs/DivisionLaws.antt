@@ -53,6 +53,7 @@ first-low false false false true v = omega arith
 first-low false false false false true = omega arith
 first-low false false false false false = omega arith
 
+-- a call with no early cause has passed them all
 pub tested : (c : Call) → earlyCause c ≡ 0 → Tested c
 unfolding earlyCause badOptions badCounts overLimits
 tested c e =
@@ -73,6 +74,7 @@ tested c e =
       tolerance = ltb-false 500 (o .«imbalance_per_mille») (or-r zero-options (ltb 500 (o .«imbalance_per_mille»)) (f .0));
     }
 
+-- an early cause is not 8 or above
 pub early-low : (c : Call) → earlyCause c < 8
 unfolding earlyCause
 early-low c =
@@ -104,6 +106,7 @@ checked-none false false true w e = absurd (omega arith)
 checked-none false false false true e = absurd (omega arith)
 checked-none false false false false e = refl
 
+-- the check never answers 8, which is growth's alone
 pub fromOwners-8 : (k : ℕ) (owners : List ℕ) → fromOwners k owners ≢ 8
 unfolding fromOwners
 fromOwners-8 k owners = checked-8 (badRanks k (length owners)) (tooMany k (length owners)) (strayOwner k owners) (emptyRank k owners)
@@ -126,10 +129,12 @@ pub record Coarser (rows : List (List ℕ)) (ws : List ℕ) (c : Coarse) : Type 
   pub sized : length (c .group) ≡ length rows
   pub loads : (o : List ℕ) (r : ℕ) → length o ≡ length (c .rows) → load ws (map (at o) (c .group)) r ≡ load (c .weights) o r
 
+-- the steps kept, each from the lists of the one before
 abbrev pub Chain : List (List ℕ) → List ℕ → List Coarse → Type 0
 Chain rows ws [] = Unit {0}
 Chain rows ws (c ∷ cs) = Coarser rows ws c × Chain (c .rows) (c .weights) cs
 
+-- every step that `coarsenings` keeps is such
 pub chained
     : (l stop : ℕ) (rows : List (List ℕ)) (ws : List ℕ)
     → Sound rows
@@ -147,12 +152,13 @@ chained (suc l) stop rows ws s n w =
     (λ p. split (ltb (length (c .rows)) (length rows))
     (λ q.
     let less = ltb-true (length (c .rows)) (length rows) q in
-    rw (p, q) (coarser, chained l stop (c .rows) (c .weights) sound (omega arith) (coarse-weighed rows s ws n w)))
+    rw (p, q) (coarser, chained l stop (c .rows) (c .weights) sound (omega arith) (coarse-weighed rows ws)))
     (λ q. rw (p, q) tt))
 
 -- ---- growth on the coarsest lists
 
 module _ (b : Balance) where
+  -- every turn of it is fair
   pub growthOn-fair
       : (cs : List Coarse) (rows : List (List ℕ)) (ws : List ℕ) (before later : List Turn) (t : Turn)
       → growthOn b rows ws cs .turns ≡ before ++ t ∷ later
@@ -161,10 +167,12 @@ module _ (b : Balance) where
       record { passing = unfold weightedMultisource in growth-fair (b .cap) rows ws (farthestSeeds rows (b .ranks)) before later t e }
   growthOn-fair (c ∷ cs) rows ws before later t e = growthOn-fair cs (c .rows) (c .weights) before later t e
 
+  -- it leaves a group unowned only after a round in which every rank passed
   pub growthOn-last
       : (cs : List Coarse) (rows : List (List ℕ)) (ws : List ℕ)
       → b .ranks < unassigned
-      → (let g = growthOn b rows ws cs in any (eqb unassigned) (grown g (g .turns)) ≡ true → (before : List Turn) × (g .turns ≡ before ++ allPass (range 0 (b .ranks))))
+      → (let g = growthOn b rows ws cs in
+      any (eqb unassigned) (grown g (g .turns)) ≡ true → (before : List Turn) × (g .turns ≡ before ++ allPass (range 0 (b .ranks))))
   growthOn-last [] rows ws n e = growth-last (b .cap) rows ws (b .ranks) n e
   growthOn-last (c ∷ cs) rows ws n e = growthOn-last cs (c .rows) (c .weights) n e
 
@@ -181,6 +189,7 @@ Linked [] = Unit {0}
 Linked (l ∷ []) = Unit {0}
 Linked (l ∷ m ∷ ls) = (m .start ≡ map (at (ended l)) (m .group)) × Linked (m ∷ ls)
 
+-- read at the first level, and at two that follow each other
 pub first-at : (g : Growth) (ls : List Level) → First g ls → (l : Level) (finer : List Level) → ls ≡ l ∷ finer → l .start ≡ grown g (g .turns)
 first-at g [] f l finer e = absurd (nil≢cons e)
 first-at g (k ∷ ks) f l finer e = rw (← head-eq-of-cons-eq e) f
@@ -221,8 +230,12 @@ pub data Grew (g : Growth) (t : Trace) : Type 0 where
   grew : t .growth ≡ g → Grew g t
   not-yet : t .growth ≡ noGrowth → t .levels ≡ [] → t .refusal ≢ 0 → t .refusal < 8 → Grew g t
 
+grew-on : (g : Growth) (t : Trace) → Grew g t → t .refusal ≡ 0 → t .growth ≡ g
+grew-on g t (grew e) z = e
+grew-on g t (not-yet e l some low) z = absurd (some z)
+
 module _ (b : Balance) where
-  -- it has come through the level of these lists, and was not refused
+  -- it has come through the level of these lists, and was not refused: its levels, the last of them, and where its owners stand
   pub record Done (swapping : ℕ) (rows : List (List ℕ)) (ws : List ℕ) (cs : List Coarse) (t : Trace) : Type 0 where
     pub coarser : List Level
     pub last : Level
@@ -236,6 +249,7 @@ module _ (b : Balance) where
     pub checked : fromOwners (b .ranks) (moved last) ≡ 0
     pub still : swapping ≡ 0 → t .owners ≡ moved last
 
+  -- what holds of it, refused or not
   pub record Solved (swapping : ℕ) (rows : List (List ℕ)) (ws : List ℕ) (cs : List Coarse) (t : Trace) : Type 0 where
     pub growth : Grew (growthOn b rows ws cs) t
     pub unclaimed : t .refusal ≡ 8 → any (eqb unassigned) (grown (t .growth) (t .growth .turns)) ≡ true
@@ -246,6 +260,7 @@ module _ (b : Balance) where
     pub climbed : map listsOf (t .levels) ++ rest ≡ ladder rows ws cs
     pub done : t .refusal ≡ 0 → Done swapping rows ws cs t
 
+  -- a level's swaps, made if the check found no refusal
   module _ (rows : List (List ℕ)) (ws : List ℕ) (swapping : ℕ) (o : List ℕ) where
     swaps : Bool → List Step
     swaps x = cond x (refineFinePairSwaps b rows ws listLength swapping o .steps) []
@@ -316,7 +331,6 @@ module _ (b : Balance) where
       growth : Grew (growthOn b rows ws []) t
       none-yet : t .levels ≡ []
       unclaimed : t .refusal ≡ 8 → any (eqb unassigned) (grown (t .growth) (t .growth .turns)) ≡ true
-      grows : t .refusal ≡ 0 → t .growth ≡ growthOn b rows ws []
       starts : t .refusal ≡ 0 → t .owners ≡ grown (t .growth) (t .growth .turns)
       sized : t .refusal ≡ 0 → length (t .owners) ≡ length rows
       within : t .refusal ≡ 0 → (r : ℕ) → r < b .ranks → load ws (t .owners) r ≤ b .cap
@@ -340,7 +354,6 @@ module _ (b : Balance) where
           growth = not-yet refl refl some low;
           none-yet = refl;
           unclaimed = λ e. absurd (omega arith);
-          grows = λ e. absurd (some e);
           starts = λ e. absurd (some e);
           sized = λ e. absurd (some e);
           within = λ e. absurd (some e);
@@ -353,7 +366,6 @@ module _ (b : Balance) where
           growth = grew refl;
           none-yet = refl;
           unclaimed = is8 (any (eqb unassigned) (grown g (g .turns)));
-          grows = λ e. refl;
           starts = λ e. refl;
           sized = λ e. unfold weightedMultisource in length-grown g (g .turns);
           within = λ e r h. growth-within (b .cap) rows ws (farthestSeeds rows (b .ranks)) p r (λ q. omega arith);
@@ -371,7 +383,7 @@ module _ (b : Balance) where
         (λ q.
         let z = eqb-true (t .refusal) 0 q in
         rw q (refine-solved swapping rows ws [] [] [] t s (record {
-          grows = g .grows z;
+          grows = grew-on (growthOn b rows ws []) t (g .growth) z;
           fair = rw (g .none-yet) tt;
           joins = λ l e f. rw (g .none-yet) (e ∙ g .starts z, tt);
           climbed = rw (g .none-yet);
@@ -389,10 +401,6 @@ module _ (b : Balance) where
           climbed = rw (g .none-yet);
           done = λ e. absurd (eqb-false (t .refusal) 0 q e);
         }))
-
-    grew-on : (g : Growth) (t : Trace) → Grew g t → t .refusal ≡ 0 → t .growth ≡ g
-    grew-on g t (grew e) z = e
-    grew-on g t (not-yet e l some low) z = absurd (some z)
 
     finer-solved
         : (c : Coarse) (cs : List Coarse) (swapping : ℕ) (rows : List (List ℕ)) (ws : List ℕ)

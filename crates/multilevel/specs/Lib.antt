@@ -1,3 +1,5 @@
 pub mod Causes
 pub mod Division
 pub mod Demand3
+pub mod Sites
+pub mod File

@@ -1,3 +1,4 @@
+-- Each return is one arm of the definition. Assumes nothing.
 use mathlib.Core.Path.{_≡_, sym, _∙_}
 use mathlib.Core.Bool.{false, true}
 use lib.ListN.{length}

@@ -1,3 +1,4 @@
+-- The offsets, then the two rounds over the rows: together the definition's test. Assumes nothing.
 use mathlib.Core.Path.{_≡_, sym, _∙_}
 use mathlib.Core.Bool.{true, false}
 use lib.ListN.{length}

@@ -1,3 +1,4 @@
+-- The invariant: the neighbors that are left name v just where all do. Assumes nothing.
 use Prim.Native.Nat.{ℕ, _≤_, _-_}
 use mathlib.Core.Path.{_≡_, sym, _∙_}
 use mathlib.Core.Bool.{Bool, true, false}
@@ -44,7 +45,7 @@ neighbors-of-requires-2 c κs = search needs
 
 holds-requires : tie.Need-holds-requires Inv-loop μ-loop
 unfolding Rising
-holds-requires c κs = rw (c .neighbors-of2 .ensures) (c .before .before .before .before .before .before .before .before .pre (c .before .wide .result))
+holds-requires c κs = rw (c .neighbors-of2 .ensures) (c .before .before .before .before .before .before .before .before .pre _)
 
 returns : tie.Need-returns Inv-loop μ-loop
 returns c =

@@ -1,3 +1,4 @@
+-- Each return is one arm of the definition. Assumes nothing.
 use Prim.Native.Nat.{_+_, _≤_, _<_}
 use native.Mathlib.Omega.{arith}
 use lib.ListN.{length}

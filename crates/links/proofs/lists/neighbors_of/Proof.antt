@@ -1,3 +1,4 @@
+-- Where the cause is 0 the two offsets are there, rise, and lie within the slice. Assumes nothing.
 use mathlib.Core.Path.{_≡_, sym, _∙_}
 use native.Mathlib.Omega.{arith}
 use borrow.Author.Tests.{eq-eqb, ne-eqb}

@@ -1,3 +1,4 @@
+-- The invariant: what is left never falls and starts from the last one passed, just where the whole never falls. Assumes nothing.
 use Prim.Native.Nat.{_≤_, _-_}
 use mathlib.Core.Path.{_≡_, sym, _∙_}
 use native.Mathlib.Omega.{arith}
@@ -26,7 +27,7 @@ shared-slice-read-x c = search needs
 returns : tie.Need-returns Inv-loop μ-loop
 returns c =
     let l = c .before .before .before .loop in
-    sym (apart-fails (λ x. x) (λ x. omega arith) (l .least) (c .before .before .before .before .args .offsets .now) (l .i) (omega arith) (c .if1 .taken)) ∙ l .inv .1
+    sym (apart-fails (λ x. x) (l .least) (c .before .before .before .before .args .offsets .now) (l .i) (omega arith) (c .if1 .taken)) ∙ l .inv .1
 
 add-i : tie.Need-add-i Inv-loop μ-loop
 add-i c = search needs
@@ -42,7 +43,7 @@ loop-again c =
 returns-2 : tie.Need-returns-2 Inv-loop μ-loop
 returns-2 c =
     let l = c .before .loop in
-    sym (apart-end (λ x. x) (λ x. omega arith) (l .least) (c .before .before .args .offsets .now) (l .i) (c .loop-test .left)) ∙ l .inv .1
+    sym (apart-end (λ x. x) (l .least) (c .before .before .args .offsets .now) (l .i) (c .loop-test .left)) ∙ l .inv .1
 
 pub never-falls-spec : {M : Type 1} → statement M
 never-falls-spec =

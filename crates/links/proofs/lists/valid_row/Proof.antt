@@ -1,3 +1,4 @@
+-- The invariant: what is left is valid and starts above the last one passed, just where the whole is valid. Assumes nothing.
 use Prim.Native.Nat.{ℕ, _+_, _≤_, _<_, _-_}
 use mathlib.Core.Path.{_≡_, sym, ap, _∙_}
 use mathlib.Core.Bool.{not, _&&_, false}
