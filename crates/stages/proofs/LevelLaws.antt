@@ -1,7 +1,7 @@
 -- A level that is ready: how long its lists are, what its rows have, and that it stays ready while what is stored lies above it. Assumes nothing.
-use mathlib.Core.Path.{_≡_, refl, sym, ap, _∙_}
-use mathlib.Core.List.{List}
 use Prim.Native.Nat.{ℕ, _+_, _-_, _≤_, _<_}
+use mathlib.Core.Path.{_≡_, _∙_}
+use mathlib.Core.List.{List}
 use native.Mathlib.Omega.{arith}
 use lib.ListN.{length}
 use Rattle.links.specs.Lists.{at, All}
@@ -10,6 +10,7 @@ use Rattle.links.specs.Graph.{row, degree, vertexCount}
 use Rattle.links.proofs.PartLaws.{length-part, kept-part-before}
 use Rattle.links.proofs.RowLaws.{length-rows, length-row, row-below, offsets-fit}
 use Rattle.stages.specs.Level.{offsetsAt, neighborsAt, rowsAt, weightsAt, groupAt, Laid, Ready}
+use Rattle.stages.specs.CoarsenCode.{resized}
 use Rattle.stages.specs.declared.level.HierarchyLevel.{HierarchyLevel}
 
 module _ (w : List ℕ) (l : HierarchyLevel) (end : ℕ) (r : Ready w l end) where
@@ -73,3 +74,17 @@ module _ (w w′ : List ℕ) (l : HierarchyLevel) (end a e : ℕ) (laid : Laid l
     short = r .short;
     light = rw weights-kept (r .light);
   }
+
+-- the same level, said to end elsewhere
+pub ready-until : (w : List ℕ) (l : HierarchyLevel) (end e : ℕ) → Ready w l end → Laid l e → e ≤ length w → Ready w l e
+ready-until w l end e r laid h = record { laid = laid; inside = h; lists = r .lists; few = r .few; short = r .short; light = r .light }
+
+-- a smaller level at the same places
+pub laid-resized : (l : HierarchyLevel) (end n m : ℕ) → Laid l end → n ≤ l .vertices → m ≤ l .entries → Laid (resized l n m) end
+laid-resized l end n m laid h k = record {
+  offsets-in = omega (arith, laid);
+  neighbors-in = omega (arith, laid);
+  weights-in = omega (arith, laid);
+  map-in = omega (arith, laid);
+  owners-in = omega (arith, laid);
+}

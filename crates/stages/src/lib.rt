@@ -3,8 +3,8 @@ mod coarsen;
 mod level;
 mod moves;
 
-pub use coarsen::coarsen_once_cached;
 pub use coarsen::Coarsened;
+pub use coarsen::coarsen_once_cached;
 pub use level::HierarchyLevel;
 pub use level::Limits;
 pub use moves::Refined;
