@@ -1,17 +1,17 @@
 // The driver: rule 8 of document 01, over the promises of links and stages.
-mod driver;
 mod causes;
+mod driver;
 mod file;
 mod lay;
 mod measure;
 mod room;
+mod season;
 mod takeover;
 mod writeback;
-mod season;
 
-pub use driver::Answer;
 pub use causes::early_cause;
 pub use causes::work_need;
+pub use driver::Answer;
 pub use file::Read;
 pub use file::Sizes;
 pub use file::link_file_cause;

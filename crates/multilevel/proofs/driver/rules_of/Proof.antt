@@ -17,7 +17,6 @@ use Rattle.links.proofs.index.Reads as index-reads
 six : (l u : ℕ) → (l + 6) * u ≡ (l + 1 + 5) * u
 six l u = let e : l + 6 ≡ l + 1 + 5 = omega arith in rw e
 
-
 -- src/driver.rt:52:13
 cast-t : tie.Need-cast-t
 cast-t c = search needs
