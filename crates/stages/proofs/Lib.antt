@@ -1,0 +1,4 @@
+pub mod DistanceLaws
+pub mod SearchLaws
+pub mod LoweringLaws
+pub mod SeedsLaws
