@@ -1,3 +1,8 @@
+pub mod CutLaws
+pub mod StepLaws
+pub mod GrowthLaws
+pub mod LoadLaws
+pub mod GroupingLaws
 pub mod DistanceLaws
 pub mod SearchLaws
 pub mod LoweringLaws

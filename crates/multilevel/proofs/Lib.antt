@@ -1,0 +1,3 @@
+pub mod LevelLaws
+pub mod DivisionLaws
+pub mod Demand3Laws
