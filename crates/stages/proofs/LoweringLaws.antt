@@ -3,10 +3,10 @@ use Prim.Native.Nat.{ℕ, suc, _+_, _-_, _*_, _≤_, _<_}
 use mathlib.Core.Path.{_≡_, refl, sym, ap, _∙_, subst}
 use mathlib.Core.List.{List}
 use native.Mathlib.Omega.{arith}
-use lib.Dec.{eqb, ltb}
+use lib.Dec.{ltb}
 use lib.ListN.{length, set, length-set}
 use lib.Seq.{getD-set-same, getD-set-other}
-use borrow.Author.Tests.{eqb-true, eqb-false, ltb-true, ltb-false}
+use borrow.Author.Tests.{ltb-true, ltb-false}
 use Rattle.links.specs.Lists.{at}
 use Rattle.links.specs.Parts.{Kept}
 use Rattle.links.specs.Graph.{row, degree}
@@ -38,17 +38,6 @@ lies-kept rows w w₀ l s e k L =
       entries-in = λ v h. omega (arith, L .entries-in v h, o (v + 1) (omega arith));
       room = omega (arith, L .room, k .same-length);
     }
-
-pub fill-more
-    : (w : List ℕ) (a i x : ℕ)
-    → a + i < length w
-    → ((v : ℕ) → v < i → from w a v ≡ x)
-    → (v : ℕ)
-    → v < i + 1
-    → from (set w (a + i) x) a v ≡ x
-fill-more w a i x h f v l = split (eqb v i)
-    (λ p. let e = eqb-true v i p in rw e (getD-set-same w (a + i) x 0 h))
-    (λ p. let d = eqb-false v i p in getD-set-other w (a + i) (a + v) x 0 (λ q. d (omega arith)) ∙ f v (omega arith))
 
 -- ---- the neighbors of u, one after another
 

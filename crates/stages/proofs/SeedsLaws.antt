@@ -6,21 +6,22 @@ use mathlib.Core.List.{List, [], _∷_, _++_}
 use mathlib.Core.Option.{Option, none, some, Option·getD}
 use native.Mathlib.Omega.{arith}
 use lib.Dec.{eqb, ltb}
-use lib.ListN.{length, set, length-append}
+use lib.ListN.{length, set, replicate, length-replicate, getD-replicate}
 use lib.Seq.{getD-set-other, ext-getD}
 use borrow.Author.Tests.{eq-eqb, ne-eqb, eqb-true, eqb-false, lt-ltb, le-ltb}
 use Rattle.links.specs.Lists.{at, All, unassigned, filter, best, bestFrom, range, elem, above}
 use Rattle.links.specs.Best.{held, stepBest}
-use Rattle.links.specs.Parts.{part, Kept}
+use Rattle.links.specs.Parts.{part, putBack, Kept}
 use Rattle.links.specs.Graph.{row, degree, vertices, vertexCount, Sound}
 use Rattle.links.proofs.ListLaws.{split, all-filter, all-range, filter-none, best-none, best-all, best-kept, not-of, iff-eq}
-use Rattle.links.proofs.PartLaws.{length-part, getD-part, part-set-end, kept-set, kept-trans, kept-wide, kept-part-after}
+use Rattle.links.proofs.PartLaws.{length-part, getD-part, getD-putBack-in, kept-putBack, part-set-end, kept-set, kept-trans, kept-wide, kept-part-after}
 use Rattle.links.proofs.RowLaws.{length-rows, length-row, row-at, offsets-fit}
 use Rattle.stages.specs.Level.{Ready, offsetsAt, neighborsAt, rowsAt}
 use Rattle.stages.specs.Seeds.{distances, nextSeed, farthestSeeds, farther}
-use Rattle.stages.specs.SeedsCode.{from, Search, Searchable, Lies, Lowerable, Lowered, ahead, unseeded, farthest, degreeAt, Choosing, Unreached, Seedable, SeededTo, Seeded}
+use Rattle.stages.specs.SeedsCode.{from, Search, Searchable, Lies, Lowerable, Lowered, ahead, unseeded, farthest, degreeAt, Choosing, Seedable, SeededTo, Seeded}
 use Rattle.stages.specs.declared.level.HierarchyLevel.{HierarchyLevel}
 use Rattle.stages.proofs.DistanceLaws.{passing-gap, passing-in, unique, distances-distance, distances-length}
+use Rattle.stages.proofs.GrowthLaws.{length-seeds}
 use Rattle.stages.proofs.LoweringLaws.{lies-kept}
 
 -- ---- the code's choice of the next seed
@@ -137,12 +138,6 @@ next-fresh rows seeds h =
       not-of (elem s seeds) (best-kept b (λ v. not (elem v seeds)) (vertices rows) s e),
     )
 
-pub seeds-length : (rows : List (List ℕ)) (r : ℕ) → length (farthestSeeds rows r) ≡ r
-unfolding farthestSeeds
-seeds-length rows zero = refl
-seeds-length rows (suc r) =
-    length-append (farthestSeeds rows r) (nextSeed rows (farthestSeeds rows r) ∷ []) ∙ omega (arith, seeds-length rows r)
-
 -- with no seed nothing is reached
 none-reached : (rows : List (List ℕ)) → Sound rows → length rows < unassigned → (v : ℕ) → v < length rows → unassigned ≡ at (distances rows []) v
 none-reached rows sound few =
@@ -170,7 +165,7 @@ unfolding searchFor
 searchable rows r sound few h =
     let F = farthestSeeds rows r in
     let L = distances-distance rows sound F few in
-    let N = next-fresh rows F (omega (arith, seeds-length rows r)) in
+    let N = next-fresh rows F (omega (arith, length-seeds rows r)) in
     let d = at (distances rows F) (nextSeed rows F) in
     record {
       sound = sound;
@@ -234,6 +229,10 @@ module _ {w : List ℕ} {l : HierarchyLevel} {s : ℕ} (R : Ready w l s) (room :
     room = room;
   }
 
+-- every vertex is unreachable
+abbrev pub unreached : List ℕ → HierarchyLevel → ℕ → List ℕ
+unreached w l s = putBack w s (s + l .vertices) (replicate (s + l .vertices - s) unassigned)
+
 module _ {w₀ : List ℕ} {l : HierarchyLevel} {s k : ℕ} (P : Seedable w₀ l s k) where
   abbrev rows : List (List ℕ)
   rows = rowsAt w₀ l
@@ -248,15 +247,26 @@ module _ {w₀ : List ℕ} {l : HierarchyLevel} {s k : ℕ} (P : Seedable w₀ l
   distances-fit = omega (arith, P .room)
 
   pub seeded-none
-      : {w : List ℕ}
-      → Unreached w₀ w s (l .vertices)
+      : (w : List ℕ)
+      → w ≡ unreached w₀ l s
       → SeededTo (rowsAt w₀ l) w₀ w l s k 0
   unfolding farthestSeeds
-  seeded-none {w} U = record {
-    chosen = let z : s + 2 * l .vertices + 0 - (s + 2 * l .vertices) ≡ 0 = omega arith in rw z;
-    distance = λ v h. U .all v (omega (arith, n-is)) ∙ none-reached rows (lies₀ .sound) (lies₀ .few) v h;
-    kept = kept-wide s (s + l .vertices) s (s + 2 * l .vertices + k) w w₀ (omega arith) (omega arith) (U .kept);
-  }
+  seeded-none w e =
+      let z : s + 2 * l .vertices + 0 - (s + 2 * l .vertices) ≡ 0 = omega arith in
+      let m : s + l .vertices - s ≡ l .vertices = omega arith in
+      let far : List ℕ = replicate (s + l .vertices - s) unassigned in
+      let far-length : length far ≡ s + l .vertices - s = length-replicate (s + l .vertices - s) unassigned in
+      let out : (v : ℕ) → v < l .vertices → from w s v ≡ unassigned =
+      λ v h. ap (λ (x : List ℕ). from x s v) e
+      ∙ getD-putBack-in w₀ s (s + l .vertices) far (omega arith) distances-fit far-length v (omega arith)
+      ∙ getD-replicate (s + l .vertices - s) v unassigned 0 (omega arith) in
+      record {
+        chosen = rw z;
+        distance = λ v h. out v (omega (arith, n-is)) ∙ none-reached rows (lies₀ .sound) (lies₀ .few) v h;
+        kept =
+            rw e (kept-wide s (s + l .vertices) s (s + 2 * l .vertices + k) (putBack w₀ s (s + l .vertices) far) w₀ (omega arith) (omega arith)
+            (kept-putBack w₀ s (s + l .vertices) far (omega arith) distances-fit far-length));
+      }
 
   module _ {w : List ℕ} {r : ℕ} (K : SeededTo (rowsAt w₀ l) w₀ w l s k r) where
     lies-now : Lies (rowsAt w₀ l) w l s

@@ -5,3 +5,5 @@ pub mod Growth
 pub mod Moves
 pub mod Swaps
 pub mod SeedsCode
+pub mod FrontierCode
+pub mod GrowthCode

@@ -179,11 +179,6 @@ pub record Seedable (w : List ℕ) (l : HierarchyLevel) (scratch k : ℕ) : Type
   pub enough : k ≤ l .vertices
   pub room : seedsAt l scratch + k ≤ length w
 
--- every vertex is unreachable
-pub record Unreached (w₀ w : List ℕ) (scratch n : ℕ) : Type 0 where
-  pub kept : Kept scratch (scratch + n) w w₀
-  pub all : (v : ℕ) → v < n → from w scratch v ≡ unassigned
-
 -- r seeds stand
 pub record SeededTo (rows : List (List ℕ)) (w₀ w : List ℕ) (l : HierarchyLevel) (scratch k r : ℕ) : Type 0 where
   pub chosen : part w (seedsAt l scratch) (seedsAt l scratch + r) ≡ farthestSeeds rows r

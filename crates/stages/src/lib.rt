@@ -1,6 +1,9 @@
 // The five stages of a division: coarsening, seeds, growth, moves, swaps (rules 3 to 7 of document 01), over one lent work slice.
+mod growth;
 mod level;
 mod seeds;
 
+pub use growth::Grown;
+pub use growth::weighted_multisource_partition;
 pub use level::HierarchyLevel;
 pub use level::Limits;

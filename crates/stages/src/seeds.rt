@@ -1,13 +1,13 @@
 // Rule 4: seeds. From `scratch` on lie the distance of each vertex to the nearest seed, the queue of a search, and the seeds.
 use super::level::HierarchyLevel;
+use links::fill_part;
 use links::index;
 ghost use mathlib.Core.Path.{_≡_};
 ghost use mathlib.Core.Logic.{_⊎_};
-ghost use Prim.Native.Nat.{ℕ, _+_, _≤_, _<_};
-ghost use lib.ListN.{length};
+ghost use Prim.Native.Nat.{ℕ, _<_};
 ghost use Rattle.links.specs.Lists.{unassigned};
 ghost use Rattle.links.specs.Best.{stepBest};
-ghost use Rattle.stages.specs.SeedsCode.{from, Search, Relaxing, Relaxed, Scannable, Scanned, Lowerable, Lowered, ahead, unseeded, farthest, degreeAt, Choosing, Unreached, Seedable, Seeded};
+ghost use Rattle.stages.specs.SeedsCode.{from, Search, Relaxing, Relaxed, Scannable, Scanned, Lowerable, Lowered, ahead, unseeded, farthest, degreeAt, Choosing, Seedable, Seeded};
 
 const UNASSIGNED: u32 = 4294967295;
 
@@ -118,18 +118,6 @@ fn next_seed(work: &[u32], l: HierarchyLevel, scratch: usize) -> u32
     if best == UNASSIGNED { 0 } else { best }
 }
 
-// Every vertex is unreachable.
-fn unreached(work: &mut [u32], scratch: usize, n: usize)
-    requires { ⌜ scratch + n ≤ length (now work) ⌝ }
-    ensures { λ _. ⌜ Unreached (now (work .entry)) (now (work .exit)) scratch n ⌝ }
-{
-    let mut i: usize = 0;
-    while i < n {
-        work[scratch + i] = UNASSIGNED;
-        i += 1;
-    }
-}
-
 // Rule 4: a seed for each rank.
 pub fn farthest_seeds(work: &mut [u32], l: HierarchyLevel, scratch: usize, ranks: usize)
     requires { ⌜ Seedable (now work) l scratch ranks ⌝ }
@@ -137,7 +125,7 @@ pub fn farthest_seeds(work: &mut [u32], l: HierarchyLevel, scratch: usize, ranks
 {
     let n = l.vertices;
     let seeds = scratch + 2 * n;
-    unreached(work, scratch, n);
+    fill_part(work, scratch, scratch + n, UNASSIGNED);
     let mut r: usize = 0;
     while r < ranks {
         let s = next_seed(&work[..], l, scratch);
