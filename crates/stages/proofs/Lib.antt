@@ -24,3 +24,16 @@ pub mod CoarsenRowLaws
 pub mod CoarsenChainLaws
 pub mod CoarsenListsLaws
 pub mod CoarsenOnceLaws
+pub mod DistanceLaws
+pub mod SearchLaws
+pub mod LoweringLaws
+pub mod SeedsLaws
+pub mod ChainLaws
+pub mod FrontierLaws
+pub mod GrowthMemoryLaws
+pub mod GrowthStateLaws
+pub mod GrowthTurnLaws
+pub mod GrowthSliceLaws
+pub mod GrowthRoundLaws
+pub mod GrowthStartLaws
+pub mod GrowthStageLaws

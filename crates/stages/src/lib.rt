@@ -5,6 +5,12 @@ mod moves;
 
 pub use coarsen::Coarsened;
 pub use coarsen::coarsen_once_cached;
+mod growth;
+mod level;
+mod seeds;
+
+pub use growth::Grown;
+pub use growth::weighted_multisource_partition;
 pub use level::HierarchyLevel;
 pub use level::Limits;
 pub use moves::Refined;
