@@ -4,3 +4,4 @@ pub mod Seeds
 pub mod Growth
 pub mod Moves
 pub mod Swaps
+pub mod Slots
