@@ -1,21 +1,65 @@
--- Laws of parts: length, element, the same part, a disjoint part, a store through a part, and the frame. Assumes nothing.
-use Prim.Native.Nat.{ℕ, zero, suc, _+_, _-_, _≤_, _<_}
+-- Laws of parts: their length and elements, a part that comes back, a store seen through a part, a part that is filled, and the frame.
+-- Assumes nothing.
+use Prim.Native.Nat.{ℕ, zero, suc, _+_, _-_, _≤_, _<_, min}
 use mathlib.Core.Path.{_≡_, refl, sym, ap, _∙_}
 use mathlib.Core.List.{List, [], _∷_, _++_, append-assoc, append-nil}
-use native.Mathlib.Omega.{arith}
-use native.Mathlib.Numerals.{add-one}
-use lib.ListN.{length, getD, take, drop, set, length-append, length-take, length-drop, length-set, take-append-drop, List·getD-append}
-use lib.Seq.{take-suc-set, getD-set-same, getD-set-other, take-at, drop-at, take-append-le, drop-append-le, length-take-le, drop-drop, take-take, getD-take, getD-drop, drop-set-add, take-set-lt, set-append-left, set-at, drop-cons, getD-append-add, take-add, ext-getD, drop-set-lt, take-set-le, getD-at, drop-length}
 use mathlib.Core.Logic.{⊎-elim}
+use native.Mathlib.Omega.{arith}
 use native.Mathlib.Nat.{eq-or-lt-of-le, le-of-suc-le-suc}
+use native.Mathlib.Numerals.{add-one}
+use lib.Dec.{ltb}
+use lib.ListN.{length, getD, take, drop, set, length-append, length-take, length-drop, length-set, take-append-drop, List·getD-append}
+use lib.Seq.{take-suc-set, getD-set-other, take-at, drop-at, take-append-le, drop-append-le, length-take-le, drop-drop, take-take, getD-take, getD-drop, drop-set-add, take-set-lt, set-at, drop-cons, getD-append-add, ext-getD, take-add, drop-set-lt, take-set-le, getD-at, drop-length, take-suc}
+use borrow.Author.Tests.{ltb-true, ltb-false}
 use Rattle.links.specs.Lists.{at}
 use Rattle.links.specs.Parts.{part, putBack, table, Kept}
+use Rattle.links.proofs.ListLaws.{split}
 
+-- ---- a part that is read
+
+-- its length
 pub length-part : (w : List ℕ) (a e : ℕ) → a ≤ e → e ≤ length w → length (part w a e) ≡ e - a
 length-part w a e h k = length-take-le (e - a) (drop a w) (simp length-drop (omega arith))
 
+-- its elements
 pub getD-part : (w : List ℕ) (a e i : ℕ) → i < e - a → getD (part w a e) i 0 ≡ getD w (a + i) 0
 getD-part w a e i h = rw (getD-take, getD-drop)
+
+-- two lists as long, which agree at each index from b up to f, have the same part there
+pub part-agree : (v w : List ℕ) (b f : ℕ) → length v ≡ length w → ((i : ℕ) → b ≤ i → i < f → getD v i 0 ≡ getD w i 0) → part v b f ≡ part w b f
+part-agree v w b f l h =
+    ext-getD 0 (part v b f) (part w b f) (simp (length-take, length-drop, l))
+    (λ i m.
+    let m′ : i < f - b = omega (arith, simp (length-take, length-drop) at m) in
+    rw (getD-part v b f i m′, getD-part w b f i m′) (h (b + i) (omega arith) (omega arith)))
+
+least : (f b n l : ℕ) → f ≤ n → min (f - b) (min n l - b) ≡ min (f - b) (l - b)
+least f b n l h = omega arith
+
+short : (i n l : ℕ) → i < min n l → i < n
+short i n l h = omega arith
+
+-- a part of a part
+pub part-part : (w : List ℕ) (a e b f : ℕ) → f ≤ e - a → part (part w a e) b f ≡ part w (a + b) (a + f)
+part-part w a e b f h =
+    ext-getD 0 (part (part w a e) b f) (part w (a + b) (a + f))
+    (let s : a + f - (a + b) ≡ f - b = omega arith in
+    let t : length w - (a + b) ≡ length w - a - b = omega arith in
+    simp (length-take, length-drop, s, t) (least f b (e - a) (length w - a) h))
+    (λ i m.
+    let m′ : i < f - b = short i (f - b) (length (drop b (part w a e))) (rw length-take at m) in
+    let p : a + (b + i) ≡ a + b + i = omega arith in
+    let q : i < a + f - (a + b) = omega arith in
+    getD-part (part w a e) b f i m′ ∙ getD-part w a e (b + i) (omega arith) ∙ rw (p, getD-part w (a + b) (a + f) i q))
+
+-- two parts, the one where the other ends
+pub part-join : (w : List ℕ) (a b e : ℕ) → a ≤ b → b ≤ e → part w a b ++ part w b e ≡ part w a e
+part-join w a b e h k =
+    let p : a + (b - a) ≡ b = omega arith in
+    let q : b - a + (e - b) ≡ e - a = omega arith in
+    rw (← q, take-add (b - a) (e - b) (drop a w), drop-drop (b - a) a w, p)
+
+-- ---- a part that comes back
 
 module _ (w : List ℕ) (a e : ℕ) (ys : List ℕ) (h : a ≤ e) (k : e ≤ length w) (l : length ys ≡ e - a) where
   pub length-putBack : length (putBack w a e ys) ≡ length w
@@ -45,14 +89,6 @@ module _ (w : List ℕ) (a e : ℕ) (ys : List ℕ) (h : a ≤ e) (k : e ≤ len
       let t : a + (e - a + (i - e)) ≡ i = omega arith in
       (rw j at q) ∙ rw (getD-append-add ys (drop (e - a) (drop a w)) (i - e) 0, getD-drop, getD-drop, t)
 
--- two lists as long, which agree at each index from b up to f
-pub part-agree : (v w : List ℕ) (b f : ℕ) → length v ≡ length w → ((i : ℕ) → b ≤ i → i < f → getD v i 0 ≡ getD w i 0) → part v b f ≡ part w b f
-part-agree v w b f l h =
-    ext-getD 0 (part v b f) (part w b f) (simp (length-take, length-drop, l))
-    (λ i m.
-    let m′ : i < f - b = omega (arith, simp (length-take, length-drop) at m) in
-    rw (getD-part v b f i m′, getD-part w b f i m′) (h (b + i) (omega arith) (omega arith)))
-
 module _ (w : List ℕ) (a e : ℕ) (ys : List ℕ) (h : a ≤ e) (k : e ≤ length w) (l : length ys ≡ e - a) where
   -- a part before it, and after it, is as it was
   pub part-putBack-before : (b f : ℕ) → f ≤ a → part (putBack w a e ys) b f ≡ part w b f
@@ -67,7 +103,11 @@ module _ (w : List ℕ) (a e : ℕ) (ys : List ℕ) (h : a ≤ e) (k : e ≤ len
       let q : drop (e - a) (drop a (putBack w a e ys)) ≡ drop (e - a) (drop a w) = rw (drop-at (take a w) (ys ++ drop (e - a) (drop a w)) a (front w a e ys h k l), drop-at ys (drop (e - a) (drop a w)) (e - a) l) in
       rw (q, take-at (take a w) (ys ++ drop (e - a) (drop a w)) a (front w a e ys h k l))
 
--- what is there, putBack there
+  -- a part inside it
+  pub part-putBack-in : (b f : ℕ) → f ≤ e - a → part (putBack w a e ys) (a + b) (a + f) ≡ part ys b f
+  part-putBack-in b f m = sym (part-part (putBack w a e ys) a e b f m) ∙ ap (λ (t : List ℕ). part t b f) (part-putBack w a e ys h k l)
+
+-- what is there, put back there
 pub putBack-part : (w : List ℕ) (a e : ℕ) → putBack w a e (part w a e) ≡ w
 putBack-part w a e = rw (take-append-drop (e - a) (drop a w), take-append-drop a w)
 
@@ -75,6 +115,43 @@ putBack-part w a e = rw (take-append-drop (e - a) (drop a w), take-append-drop a
 pub putBack-set : (w : List ℕ) (a e i v : ℕ) → a ≤ e → e ≤ length w → i < e - a → putBack w a e (set (part w a e) i v) ≡ set w (a + i) v
 putBack-set w a e i v h k m =
     rw (← take-set-lt (e - a) (drop a w) i v m, ← drop-set-lt (e - a) (drop a w) i v m, take-append-drop (e - a) (set (drop a w) i v), ← drop-set-add a w i v, ← take-set-le a w (a + i) v (omega arith), take-append-drop a (set w (a + i) v))
+
+-- a part of a part that comes back
+pub putBack-inner : (w : List ℕ) (a e b f : ℕ) (ys : List ℕ) → a ≤ e → e ≤ length w → b ≤ f → f ≤ e - a
+    → putBack w a e (putBack (part w a e) b f ys) ≡ putBack w (a + b) (a + f) ys
+putBack-inner w a e b f ys h k m n =
+    let d : List ℕ = drop a w in
+    let p : a + f - (a + b) ≡ f - b = omega arith in
+    let q : b + (f - b) ≡ f = omega arith in
+    let r : drop (f - b) (drop b (part w a e)) ++ drop (e - a) d ≡ drop (f - b) (drop b d) =
+    rw (drop-drop (f - b) b (part w a e), drop-drop (f - b) b d, q)
+    (sym (drop-append-le f (part w a e) (drop (e - a) d) (rw (length-part w a e h k) n)) ∙ ap (drop f) (take-append-drop (e - a) d)) in
+    rw (p, take-add a b w, ← drop-drop b a w, ← r, take-take b (e - a) d (omega arith))
+    (simp append-assoc)
+
+-- ---- a store, seen through a part
+
+-- a store in a part
+pub part-set-in : (w : List ℕ) (a e i x : ℕ) → a ≤ e → e ≤ length w → i < e - a → part (set w (a + i) x) a e ≡ set (part w a e) i x
+part-set-in w a e i x h k m =
+    ap (λ (z : List ℕ). part z a e) (sym (putBack-set w a e i x h k m))
+    ∙ part-putBack w a e (set (part w a e) i x) h k (length-set (part w a e) i x ∙ length-part w a e h k)
+
+-- a store before, or after
+pub part-set-before : (w : List ℕ) (a e j x : ℕ) → j < a → part (set w j x) a e ≡ part w a e
+part-set-before w a e j x h = part-agree (set w j x) w a e (length-set w j x) (λ i p q. getD-set-other w j i x 0 (λ z. omega arith))
+
+pub part-set-after : (w : List ℕ) (a e j x : ℕ) → e ≤ j → part (set w j x) a e ≡ part w a e
+part-set-after w a e j x h = part-agree (set w j x) w a e (length-set w j x) (λ i p q. getD-set-other w j i x 0 (λ z. omega arith))
+
+-- a store at the end of a part makes it longer
+pub part-set-end : (w : List ℕ) (a g x : ℕ) → a + g < length w → part (set w (a + g) x) a (a + (g + 1)) ≡ part w a (a + g) ++ (x ∷ [])
+part-set-end w a g x h =
+    let e : a + (g + 1) - a ≡ suc g = omega arith in
+    let e′ : a + g - a ≡ g = omega arith in
+    rw (e, e′, drop-set-add a w g x) (take-suc-set (drop a w) g x (simp length-drop (omega arith)))
+
+-- ---- a part that is filled
 
 -- a list made from a rule
 pub length-table : (f : ℕ → ℕ) (n : ℕ) → length (table f n) ≡ n
@@ -102,6 +179,13 @@ fill f d i h =
 pub fill-done : (f : ℕ → ℕ) (d : List ℕ) (i : ℕ) → i ≡ length d → table f i ++ drop i d ≡ table f (length d)
 fill-done f d i q = rw (q, drop-length d, append-nil)
 
+-- a loop that copies from the front
+pub copy-more : (s d : List ℕ) (i : ℕ) → i < length s → i < length d → set (take i s ++ drop i d) i (at s i) ≡ take (i + 1) s ++ drop (i + 1) d
+copy-more s d i h k =
+    let l : length (take i s) ≡ i = length-take-le i s (omega arith) in
+    rw (drop-cons d i 0 k, set-at (take i s) (at d i) (drop (suc i) d) (at s i) i l, add-one i, take-suc s i 0 h, append-assoc (take i s) (at s i ∷ []) (drop (suc i) d))
+
+-- a part that is half filled is as long as it was
 pub part-length : (w₀ : List ℕ) (a e : ℕ) (f : ℕ → ℕ) (i : ℕ) → a ≤ e → e ≤ length w₀ → i < e - a → length (table f i ++ drop i (part w₀ a e)) ≡ e - a
 part-length w₀ a e f i h k m = simp (length-append, length-table, length-drop, length-part w₀ a e h k) (omega arith)
 
@@ -126,6 +210,8 @@ whole-step w₀ w a e f i x h k m q r =
     let l : length w ≡ length w₀ = ap length q ∙ length-putBack w₀ a e (table f i ++ drop i (part w₀ a e)) h k (part-length w₀ a e f i h k m) in
     sym (putBack-set w a e i x h (rw l k) m) ∙ part-step w₀ w a e f i x h k m q r
 
+-- ---- the frame
+
 -- the simplest frame: all below a is as it was, so each part below a is
 pub same-below : (v w : List ℕ) (a b f : ℕ) → length v ≡ length w → take a v ≡ take a w → f ≤ a → part v b f ≡ part w b f
 same-below v w a b f l q h =
@@ -138,32 +224,11 @@ pub take-putBack-above : (w : List ℕ) (a b e : ℕ) (ys : List ℕ) → a ≤ 
 take-putBack-above w a b e ys h k =
     take-append-le a (take b w) (ys ++ drop (e - b) (drop b w)) (rw (length-take-le b w k) h) ∙ take-take a b w h
 
--- ---- a store, seen through a part
-
--- a store in a part
-pub part-set-in : (w : List ℕ) (a e i x : ℕ) → a ≤ e → e ≤ length w → i < e - a → part (set w (a + i) x) a e ≡ set (part w a e) i x
-part-set-in w a e i x h k m =
-    ap (λ (z : List ℕ). part z a e) (sym (putBack-set w a e i x h k m))
-    ∙ part-putBack w a e (set (part w a e) i x) h k (length-set (part w a e) i x ∙ length-part w a e h k)
-
--- a store before, or after
-pub part-set-before : (w : List ℕ) (a e j x : ℕ) → j < a → part (set w j x) a e ≡ part w a e
-part-set-before w a e j x h = part-agree (set w j x) w a e (length-set w j x) (λ i p q. getD-set-other w j i x 0 (λ z. omega arith))
-
-pub part-set-after : (w : List ℕ) (a e j x : ℕ) → e ≤ j → part (set w j x) a e ≡ part w a e
-part-set-after w a e j x h = part-agree (set w j x) w a e (length-set w j x) (λ i p q. getD-set-other w j i x 0 (λ z. omega arith))
-
--- a store at the end of a part makes it longer
-pub part-set-end : (w : List ℕ) (a g x : ℕ) → a + g < length w → part (set w (a + g) x) a (a + (g + 1)) ≡ part w a (a + g) ++ (x ∷ [])
-part-set-end w a g x h =
-    let e : a + (g + 1) - a ≡ suc g = omega arith in
-    let e′ : a + g - a ≡ g = omega arith in
-    rw (e, e′, drop-set-add a w g x) (take-suc-set (drop a w) g x (simp length-drop (omega arith)))
-
--- what is kept
+-- nothing changed
 pub kept-refl : (a e : ℕ) (w : List ℕ) → Kept a e w w
 kept-refl a e w = record { same-length = refl; below = λ i h. refl; beyond = λ i h. refl }
 
+-- one change after another, in the same place
 pub kept-trans : (a e : ℕ) (w w₁ w₀ : List ℕ) → Kept a e w w₁ → Kept a e w₁ w₀ → Kept a e w w₀
 kept-trans a e w w₁ w₀ p q = record {
   same-length = p .same-length ∙ q .same-length;
@@ -171,6 +236,11 @@ kept-trans a e w w₁ w₀ p q = record {
   beyond = λ i h. p .beyond i h ∙ q .beyond i h;
 }
 
+-- a wider place
+pub kept-wide : (a e b f : ℕ) (w w₀ : List ℕ) → b ≤ a → e ≤ f → Kept a e w w₀ → Kept b f w w₀
+kept-wide a e b f w w₀ h m k = record { same-length = k .same-length; below = λ i p. k .below i (omega arith); beyond = λ i p. k .beyond i (omega arith) }
+
+-- a store there
 pub kept-set : (a e : ℕ) (w w₀ : List ℕ) (i x : ℕ) → Kept a e w w₀ → a ≤ i → i < e → Kept a e (set w i x) w₀
 kept-set a e w w₀ i x k h l = record {
   same-length = length-set w i x ∙ k .same-length;
@@ -178,15 +248,52 @@ kept-set a e w w₀ i x k h l = record {
   beyond = λ j m. getD-set-other w i j x 0 (λ q. omega arith) ∙ k .beyond j m;
 }
 
-pub kept-wide : (a e b f : ℕ) (w w₀ : List ℕ) → b ≤ a → e ≤ f → Kept a e w w₀ → Kept b f w w₀
-kept-wide a e b f w w₀ h m k = record { same-length = k .same-length; below = λ i p. k .below i (omega arith); beyond = λ i p. k .beyond i (omega arith) }
+-- what a part that was lent leaves
+pub kept-putBack : (w : List ℕ) (a e : ℕ) (ys : List ℕ) → a ≤ e → e ≤ length w → length ys ≡ e - a → Kept a e (putBack w a e ys) w
+kept-putBack w a e ys h k l = record { same-length = length-putBack w a e ys h k l; below = getD-putBack-before w a e ys h k l; beyond = getD-putBack-after w a e ys h k l }
 
+-- a part from b up to f, lent within a place from a up to e that was changed before
+pub kept-putBack-in : (a e b f : ℕ) (w w₀ ys : List ℕ) → Kept a e w w₀ → a ≤ b → b ≤ f → f ≤ e → f ≤ length w → length ys ≡ f - b → Kept a e (putBack w b f ys) w₀
+kept-putBack-in a e b f w w₀ ys k h m n o l = kept-trans a e (putBack w b f ys) w w₀ (kept-wide b f a e (putBack w b f ys) w h n (kept-putBack w b f ys m o l)) k
+
+-- a part that was lent, and changed only from b up to f
+pub kept-lent : (w : List ℕ) (a e b f : ℕ) (ys : List ℕ) → a ≤ e → e ≤ length w → Kept b f ys (part w a e) → Kept (a + b) (a + f) (putBack w a e ys) w
+kept-lent w a e b f ys h k q = record {
+  same-length = length-putBack w a e ys h k l;
+  below = λ i m. by-place i (λ j n. q .below j (omega arith));
+  beyond = λ i m. by-place i (λ j n. q .beyond j (omega arith));
+}
+  where
+    l : length ys ≡ e - a
+    l = q .same-length ∙ length-part w a e h k
+
+    by-place : (i : ℕ) → ((j : ℕ) → a + j ≡ i → at ys j ≡ at (part w a e) j) → at (putBack w a e ys) i ≡ at w i
+    by-place i t = split (ltb i a)
+        (λ p. getD-putBack-before w a e ys h k l i (ltb-true i a p))
+        (λ p. split (ltb i e)
+        (λ r. let s : a + (i - a) ≡ i = omega (arith, ltb-false i a p) in
+        let u : i - a < e - a = omega (arith, ltb-false i a p, ltb-true i e r) in
+        rw s at (getD-putBack-in w a e ys h k l (i - a) u ∙ t (i - a) s ∙ getD-part w a e (i - a) u))
+        (λ r. getD-putBack-after w a e ys h k l i (ltb-false i e r)))
+
+-- a part below it, and beyond it, is as it was
 pub kept-part-before : (a e : ℕ) (w w₀ : List ℕ) → Kept a e w w₀ → (b f : ℕ) → f ≤ a → part w b f ≡ part w₀ b f
 kept-part-before a e w w₀ k b f h = part-agree w w₀ b f (k .same-length) (λ i p q. k .below i (omega arith))
 
 pub kept-part-after : (a e : ℕ) (w w₀ : List ℕ) → Kept a e w w₀ → (b f : ℕ) → e ≤ b → part w b f ≡ part w₀ b f
 kept-part-after a e w w₀ k b f h = part-agree w w₀ b f (k .same-length) (λ i p q. k .beyond i (omega arith))
 
--- what a part that was lent leaves
-pub kept-putBack : (w : List ℕ) (a e : ℕ) (ys : List ℕ) → a ≤ e → e ≤ length w → length ys ≡ e - a → Kept a e (putBack w a e ys) w
-kept-putBack w a e ys h k l = record { same-length = length-putBack w a e ys h k l; below = getD-putBack-before w a e ys h k l; beyond = getD-putBack-after w a e ys h k l }
+-- all below it, and all beyond it
+pub kept-take : (a e : ℕ) (w w₀ : List ℕ) → Kept a e w w₀ → take a w ≡ take a w₀
+kept-take a e w w₀ k = let z : a - 0 ≡ a = omega arith in rw z at (kept-part-before a e w w₀ k 0 a (omega arith))
+
+pub kept-drop : (a e : ℕ) (w w₀ : List ℕ) → Kept a e w w₀ → drop e w ≡ drop e w₀
+kept-drop a e w w₀ k =
+    ext-getD 0 (drop e w) (drop e w₀) (simp (length-drop, k .same-length)) (λ i h. rw (getD-drop e w i 0, getD-drop e w₀ i 0) (k .beyond (e + i) (omega arith)))
+
+-- so it is the old with the new part put back
+pub kept-is : (a e : ℕ) (w w₀ : List ℕ) → a ≤ e → Kept a e w w₀ → w ≡ putBack w₀ a e (part w a e)
+kept-is a e w w₀ h k =
+    let s : a + (e - a) ≡ e = omega arith in
+    let t : drop (e - a) (drop a w) ≡ drop (e - a) (drop a w₀) = rw (drop-drop (e - a) a w, drop-drop (e - a) a w₀, s) (kept-drop a e w w₀ k) in
+    sym (putBack-part w a e) ∙ rw (kept-take a e w w₀ k, t)

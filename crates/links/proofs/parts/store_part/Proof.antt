@@ -1,0 +1,42 @@
+use mathlib.Core.Path.{ap, _∙_}
+use native.Mathlib.Omega.{arith}
+use Rattle.links.specs.Parts.{putBack}
+use Rattle.links.proofs.PartLaws.{putBack-set}
+use borrow.Author.Needs.{needs}
+use Rattle.links.proofs.parts.store_part.Statement.{statement}
+use Rattle.links.proofs.parts.store_part.Tie as tie
+
+mul-store : tie.Need-mul-store
+mul-store c = search needs
+
+sub-store : tie.Need-sub-store
+sub-store c = search needs
+
+part-store-start : tie.Need-part-store-start
+part-store-start c = search needs
+
+part-store-end : tie.Need-part-store-end
+part-store-end c = search needs
+
+store-requires : tie.Need-store-requires
+store-requires c κs = search needs
+
+same-length : tie.Need-same-length
+same-length c = search needs
+
+returns : tie.Need-returns
+returns c =
+    let a = c .before .before .before .before .before .args in
+    ap (putBack (a .work .now) (a .a) (a .e)) (c .before .before .store .ensures) ∙ putBack-set (a .work .now) (a .a) (a .e) (a .i) (a .x) (omega arith) (omega arith) (omega arith)
+
+pub store-part-spec : {M : Type 1} → statement M
+store-part-spec =
+    tie.close
+    (tie.spec
+    mul-store
+    sub-store
+    part-store-start
+    part-store-end
+    store-requires
+    same-length
+    returns)
