@@ -1,1 +1,3 @@
+pub mod LoadSetLaws
+pub mod TallyLaws
 pub mod SlotLaws
