@@ -1,3 +1,4 @@
 pub mod LoadSetLaws
 pub mod TallyLaws
 pub mod SlotLaws
+pub mod ReadyLaws

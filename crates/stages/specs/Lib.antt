@@ -5,3 +5,4 @@ pub mod Growth
 pub mod Moves
 pub mod Swaps
 pub mod Slots
+pub mod SwapsCode

@@ -1,0 +1,152 @@
+-- What the code of rule 7 keeps in the work slice, and what it promises. Assumes nothing.
+use Prim.Native.Nat.{ℕ, zero, suc, _+_, _-_, _*_, _≤_, _<_}
+use mathlib.Core.Path.{_≡_}
+use mathlib.Core.Bool.{Bool, not, _&&_, cond}
+use mathlib.Core.List.{List, [], _∷_}
+use mathlib.Core.Logic.{_⊎_}
+use lib.Dec.{ltb, eqb}
+use lib.ListN.{length, take}
+use Rattle.links.specs.Lists.{at, insert, foldl, elem, range}
+use Rattle.links.specs.Parts.{part, Kept}
+use Rattle.links.specs.Graph.{linksIn, linksTo, load}
+use Rattle.stages.specs.Level.{offsetsAt, rowsAt, weightsAt, ownersAt, Ready, balanceIn}
+use Rattle.stages.specs.Moves.{Step, move, swap, after}
+use Rattle.stages.specs.Swaps.{Candidate, Proposal, ahead, sooner, propose, candidates, swapPass, allProposals, refineFinePairSwaps}
+use Rattle.stages.specs.Slots.{candidate, slots}
+use Rattle.stages.specs.declared.level.HierarchyLevel.{HierarchyLevel}
+use Rattle.stages.specs.declared.level.Limits.{Limits}
+use Rattle.stages.specs.declared.swaps.SwapRoom.{SwapRoom}
+
+-- ---- where things lie
+
+-- the first number of the list of ranks a and b, and what that list holds
+abbrev pub listPlace : SwapRoom → ℕ → ℕ → ℕ
+listPlace s a b = s .lists + 24 * (a * s .limits .ranks + b)
+
+abbrev pub listAt : List ℕ → SwapRoom → ℕ → ℕ → List Candidate
+listAt w s a b = slots candidate 8 (part w (listPlace s a b) (listPlace s a b + 24))
+
+-- the level's parts, then a used flag for each vertex, a load and a tally for each rank, and the lists; every owner is a rank
+pub record Given (w : List ℕ) (s : SwapRoom) : Type 0 where
+  pub ready : Ready w (s .level) (s .used)
+  pub used-in : s .used + s .level .vertices ≤ s .loads
+  pub loads-in : s .loads + s .limits .ranks ≤ s .tallies
+  pub tallies-in : s .tallies + s .limits .ranks ≤ s .lists
+  pub lists-in : s .lists + 24 * (s .limits .ranks * s .limits .ranks) ≤ length w
+  pub few-ranks : s .limits .ranks ≤ 256
+  pub owned : (v : ℕ) → v < s .level .vertices → at (ownersAt w (s .level)) v < s .limits .ranks
+
+-- and the loads are those of the owners
+pub record Standing (w : List ℕ) (s : SwapRoom) : Type 0 where
+  pub given : Given w s
+  pub loaded : (r : ℕ) → r < s .limits .ranks → at w (s .loads + r) ≡ load (weightsAt w (s .level)) (ownersAt w (s .level)) r
+
+-- no tally is kept
+abbrev pub Clear : List ℕ → SwapRoom → Type 0
+Clear w s = (r : ℕ) → r < s .limits .ranks → at w (s .tallies + r) ≡ 0
+
+-- the used flags are those of the used vertices
+abbrev pub Marked : List ℕ → SwapRoom → List ℕ → Type 0
+Marked w s used = (v : ℕ) → v < s .level .vertices → eqb (at w (s .used + v)) 0 ≡ not (elem v used)
+
+-- ---- listing
+
+-- v's turn to be listed for ranks a and b
+unfoldable pub offerVertex : ℕ → List (List ℕ) → List ℕ → ℕ → ℕ → List Candidate → ℕ → List Candidate
+offerVertex n rows owners a b list v =
+    cond
+    (eqb (at owners v) a && ltb 0 (linksTo rows owners v b))
+    (take n (insert ahead (candidate (linksTo rows owners v b) (linksTo rows owners v a) v) list))
+    list
+
+-- a neighbor's owner is tallied
+abbrev pub ownerOf : List ℕ → SwapRoom → ℕ → ℕ
+ownerOf w s v = at (ownersAt w (s .level)) v
+
+-- v's neighbors are tallied by their owners: those from i up to e are still to come
+pub record Tallying (w₀ w : List ℕ) (s : SwapRoom) (v i e : ℕ) : Type 0 where
+  pub kept : Kept (s .tallies) (s .tallies + s .limits .ranks) w w₀
+  pub counts
+      : (r : ℕ)
+      → r < s .limits .ranks
+      → at w (s .tallies + r) + linksIn (part w₀ i e) (ownersAt w₀ (s .level)) r ≡ linksTo (rowsAt w₀ (s .level)) (ownersAt w₀ (s .level)) v r
+
+-- one list is offered a candidate
+pub record Offered (w w′ : List ℕ) (a : ℕ) (x : Candidate) : Type 0 where
+  pub here : slots candidate 8 (part w′ a (a + 24)) ≡ take 8 (insert ahead x (slots candidate 8 (part w a (a + 24))))
+  pub kept : Kept a (a + 24) w′ w
+
+-- rank b is still to be met among v's neighbors, of which those from i up to e are left; or v was offered to it
+pub record Waiting (w₀ w : List ℕ) (s : SwapRoom) (a b v i e : ℕ) : Type 0 where
+  pub tallied : at w (s .tallies + b) ≡ linksTo (rowsAt w₀ (s .level)) (ownersAt w₀ (s .level)) v b
+  pub unmet : linksIn (part w₀ i e) (ownersAt w₀ (s .level)) b ≡ linksTo (rowsAt w₀ (s .level)) (ownersAt w₀ (s .level)) v b
+  pub same : listAt w s a b ≡ listAt w₀ s a b
+
+pub record Met (w₀ w : List ℕ) (s : SwapRoom) (a b v : ℕ) : Type 0 where
+  pub cleared : at w (s .tallies + b) ≡ 0
+  pub offered : listAt w s a b ≡ offerVertex 8 (rowsAt w₀ (s .level)) (ownersAt w₀ (s .level)) a b (listAt w₀ s a b) v
+
+pub record Offering (w₀ w : List ℕ) (s : SwapRoom) (a v i e : ℕ) : Type 0 where
+  pub kept : Kept (s .tallies) (length w₀) w w₀
+  pub home : at w (s .tallies + a) ≡ linksTo (rowsAt w₀ (s .level)) (ownersAt w₀ (s .level)) v a
+  pub others : (c b : ℕ) → c < s .limits .ranks → b < s .limits .ranks → (c ≡ a → ⊥) → listAt w s c b ≡ listAt w₀ s c b
+  pub each : (b : ℕ) → b < s .limits .ranks → (b ≡ a → ⊥) → Waiting w₀ w s a b v i e ⊎ Met w₀ w s a b v
+
+-- v was listed
+pub record Listed (w w′ : List ℕ) (s : SwapRoom) (v : ℕ) : Type 0 where
+  pub kept : Kept (s .tallies) (length w) w′ w
+  pub clear : Clear w′ s
+  pub lists
+      : (a b : ℕ)
+      → a < s .limits .ranks
+      → b < s .limits .ranks
+      → (a ≡ b → ⊥)
+      → listAt w′ s a b ≡ offerVertex 8 (rowsAt w (s .level)) (ownersAt w (s .level)) a b (listAt w s a b) v
+
+-- the lists are those of these owners
+abbrev pub Holding : List ℕ → SwapRoom → List ℕ → Type 0
+Holding w s owners =
+    (a b : ℕ)
+    → a < s .limits .ranks
+    → b < s .limits .ranks
+    → (a ≡ b → ⊥)
+    → listAt w s a b ≡ candidates 8 (rowsAt w (s .level)) owners a b
+
+-- ---- proposals
+
+-- a product joins the first n proposals if its net is above 0
+unfoldable pub proposed : ℕ → List (List ℕ) → Candidate → List Proposal → Candidate → List Proposal
+proposed n rows x ps y = cond (ltb 0 (propose rows x y .net)) (take n (insert sooner (propose rows x y) ps)) ps
+
+-- numbers that a product can be made of: they add up below 2^32, and the vertex is one of n
+pub record Fair (n : ℕ) (x : Candidate) : Type 0 where
+  pub there-few : x .there ≤ 131072
+  pub home-few : x .home ≤ 131072
+  pub vertex-in : x .vertex < n
+
+pub record Named (n : ℕ) (p : Proposal) : Type 0 where
+  pub first-in : p .first < n
+  pub second-in : p .second < n
+
+-- ---- swaps
+
+-- those that a step uses are used
+abbrev pub usedBy : List ℕ → Step → List ℕ
+usedBy used (move v r) = used
+usedBy used (swap u v) = u ∷ v ∷ used
+
+-- after some steps
+pub record Done (w w′ : List ℕ) (s : SwapRoom) (used : List ℕ) (number : ℕ) (steps : List Step) : Type 0 where
+  pub counted : number ≡ length steps
+  pub owners-are : ownersAt w′ (s .level) ≡ foldl after (ownersAt w (s .level)) steps
+  pub marked : Marked w′ s (foldl usedBy used steps)
+
+-- proposals were taken in their order: the number of swaps
+pub record Taken (w w′ : List ℕ) (s : SwapRoom) (number : ℕ) (ps : List Proposal) : Type 0 where
+  pub standing : Standing w′ s
+  pub kept : Kept (s .level .owners) (s .tallies) w′ w
+  pub done
+      : (used : List ℕ)
+      → Marked w s used
+      → Done w w′ s used number
+      (swapPass (balanceIn (s .limits)) (rowsAt w (s .level)) (weightsAt w (s .level)) ps used (ownersAt w (s .level)))
