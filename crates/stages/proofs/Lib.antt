@@ -1,4 +1,9 @@
 pub mod LoadSetLaws
 pub mod TallyLaws
 pub mod SlotLaws
-pub mod ReadyLaws
+pub mod TargetLaws
+pub mod MovesLaws
+pub mod MovesSliceLaws
+pub mod CutLaws
+pub mod StepLaws
+pub mod GrowthLaws

@@ -6,3 +6,4 @@ pub mod Moves
 pub mod Swaps
 pub mod Slots
 pub mod SwapsCode
+pub mod MovesCode

@@ -2,6 +2,8 @@
 mod level;
 mod slots;
 mod swaps;
+mod moves;
 
 pub use level::HierarchyLevel;
 pub use level::Limits;
+pub use moves::Refined;

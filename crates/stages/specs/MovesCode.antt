@@ -1,0 +1,66 @@
+-- What the code of rule 6 keeps in the work slice, and what it promises. Assumes nothing.
+use Prim.Native.Nat.{ℕ, _+_, _-_, _≤_, _<_}
+use mathlib.Core.Path.{_≡_}
+use mathlib.Core.Bool.{Bool, cond}
+use mathlib.Core.List.{List}
+use mathlib.Core.Option.{Option, none, some}
+use lib.ListN.{length}
+use lib.Dec.{leb, ltb, eqb}
+use Rattle.links.specs.Lists.{at, above}
+use Rattle.links.specs.Parts.{Kept}
+use Rattle.links.specs.Graph.{linksTo}
+use Rattle.stages.specs.Level.{offsetsAt, neighborsAt, rowsAt, weightsAt, ownersAt, Ready}
+use Rattle.stages.specs.declared.level.HierarchyLevel.{HierarchyLevel}
+use Rattle.stages.specs.declared.moves.Offer.{Offer}
+use Rattle.stages.specs.declared.moves.Refined.{Refined}
+use Rattle.stages.specs.declared.moves.Refined.the-variants as refined
+
+-- ---- tallies: a vertex's neighbors counted by their owners
+
+-- every owner is a rank
+abbrev pub Ranked : List ℕ → HierarchyLevel → ℕ → Type 0
+Ranked w l k = (v : ℕ) → v < l .vertices → at (ownersAt w l) v < k
+
+-- n numbers from a on are 0
+abbrev pub Clear : List ℕ → ℕ → ℕ → Type 0
+Clear w a n = (i : ℕ) → i < n → at w (a + i) ≡ 0
+
+-- a level, room beyond it for a number for each rank, and a vertex
+pub record Tallying (w : List ℕ) (l : HierarchyLevel) (tallies ranks v : ℕ) : Type 0 where
+  pub ready : Ready w l tallies
+  pub room : tallies + ranks ≤ length w
+  pub ranked : Ranked w l ranks
+  pub vertex : v < l .vertices
+
+-- each rank's tally is the number of v's neighbors that it owns
+pub record Tallied (w w′ : List ℕ) (l : HierarchyLevel) (tallies ranks v : ℕ) : Type 0 where
+  pub counts : (r : ℕ) → r < ranks → at w′ (tallies + r) ≡ linksTo (rowsAt w l) (ownersAt w l) v r
+  pub kept : Kept tallies (tallies + ranks) w′ w
+
+-- ranks without a neighbor of v have the tally 0
+abbrev pub Untouched : List ℕ → HierarchyLevel → (tallies ranks v : ℕ) → Type 0
+Untouched w l tallies ranks v = (r : ℕ) → r < ranks → linksTo (rowsAt w l) (ownersAt w l) v r ≡ 0 → at w (tallies + r) ≡ 0
+
+-- ---- the choice of a target
+
+-- what a rank with so many neighbors there offers: "neighbours there less neighbours at home", 0 unless "load plus weight within cap"
+unfoldable pub offerOf : (cap weight load there home rank : ℕ) → Offer
+offerOf cap weight load there home rank = record { gain = cond (leb (load + weight) cap) (there - home) 0; rank = rank }
+
+-- the better of two: "greatest gain, then lowest crew"; the first if they are the same
+unfoldable pub betterOffer : Offer → Offer → Offer
+betterOffer x y = cond (above (y .gain) (x .gain) (ltb (y .rank) (x .rank))) y x
+
+-- the rank that an offer stands for; a gain of 0 is no offer
+unfoldable pub offered : Offer → Option ℕ
+offered x = cond (eqb (x .gain) 0) none (some (x .rank))
+
+-- ---- the answer: each case's number and value
+
+abbrev pub refinedNumber : Refined → ℕ
+refinedNumber (refined.Moved m) = 0
+refinedNumber (refined.Refused number) = number
+
+abbrev pub refinedValue : Refined → ℕ
+refinedValue (refined.Moved m) = m
+refinedValue (refined.Refused number) = 0
