@@ -7,3 +7,5 @@ pub mod MovesSliceLaws
 pub mod CutLaws
 pub mod StepLaws
 pub mod GrowthLaws
+pub mod SwapListLaws
+pub mod SwapsSliceLaws

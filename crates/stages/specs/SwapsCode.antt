@@ -5,16 +5,18 @@ use mathlib.Core.Bool.{Bool, not, _&&_, cond}
 use mathlib.Core.List.{List, [], _∷_}
 use mathlib.Core.Logic.{_⊎_}
 use lib.Dec.{ltb, eqb}
-use lib.ListN.{length, take}
+use lib.ListN.{length, take, set}
 use Rattle.links.specs.Lists.{at, insert, foldl, elem, range}
 use Rattle.links.specs.Parts.{part, Kept}
 use Rattle.links.specs.Graph.{linksIn, linksTo, load}
-use Rattle.stages.specs.Level.{offsetsAt, rowsAt, weightsAt, ownersAt, Ready, balanceIn}
+use Rattle.stages.specs.Level.{neighborsAt, rowsAt, weightsAt, ownersAt, Ready, balanceIn}
 use Rattle.stages.specs.Moves.{Step, move, swap, after}
-use Rattle.stages.specs.Swaps.{Candidate, Proposal, ahead, sooner, propose, candidates, swapPass, allProposals, refineFinePairSwaps}
+use Rattle.stages.specs.Swaps.{Candidate, Proposal, ahead, sooner, propose, candidates, applies, swapPass, allProposals, refineFinePairSwaps}
+use Rattle.stages.specs.MovesCode.{Ranked, Clear}
 use Rattle.stages.specs.Slots.{candidate, slots}
 use Rattle.stages.specs.declared.level.HierarchyLevel.{HierarchyLevel}
 use Rattle.stages.specs.declared.level.Limits.{Limits}
+use Rattle.stages.specs.declared.slots.Member.{Member}
 use Rattle.stages.specs.declared.swaps.SwapRoom.{SwapRoom}
 
 -- ---- where things lie
@@ -34,16 +36,12 @@ pub record Given (w : List ℕ) (s : SwapRoom) : Type 0 where
   pub tallies-in : s .tallies + s .limits .ranks ≤ s .lists
   pub lists-in : s .lists + 24 * (s .limits .ranks * s .limits .ranks) ≤ length w
   pub few-ranks : s .limits .ranks ≤ 256
-  pub owned : (v : ℕ) → v < s .level .vertices → at (ownersAt w (s .level)) v < s .limits .ranks
+  pub ranked : Ranked w (s .level) (s .limits .ranks)
 
 -- and the loads are those of the owners
 pub record Standing (w : List ℕ) (s : SwapRoom) : Type 0 where
   pub given : Given w s
   pub loaded : (r : ℕ) → r < s .limits .ranks → at w (s .loads + r) ≡ load (weightsAt w (s .level)) (ownersAt w (s .level)) r
-
--- no tally is kept
-abbrev pub Clear : List ℕ → SwapRoom → Type 0
-Clear w s = (r : ℕ) → r < s .limits .ranks → at w (s .tallies + r) ≡ 0
 
 -- the used flags are those of the used vertices
 abbrev pub Marked : List ℕ → SwapRoom → List ℕ → Type 0
@@ -59,18 +57,6 @@ offerVertex n rows owners a b list v =
     (take n (insert ahead (candidate (linksTo rows owners v b) (linksTo rows owners v a) v) list))
     list
 
--- a neighbor's owner is tallied
-abbrev pub ownerOf : List ℕ → SwapRoom → ℕ → ℕ
-ownerOf w s v = at (ownersAt w (s .level)) v
-
--- v's neighbors are tallied by their owners: those from i up to e are still to come
-pub record Tallying (w₀ w : List ℕ) (s : SwapRoom) (v i e : ℕ) : Type 0 where
-  pub kept : Kept (s .tallies) (s .tallies + s .limits .ranks) w w₀
-  pub counts
-      : (r : ℕ)
-      → r < s .limits .ranks
-      → at w (s .tallies + r) + linksIn (part w₀ i e) (ownersAt w₀ (s .level)) r ≡ linksTo (rowsAt w₀ (s .level)) (ownersAt w₀ (s .level)) v r
-
 -- one list is offered a candidate
 pub record Offered (w w′ : List ℕ) (a : ℕ) (x : Candidate) : Type 0 where
   pub here : slots candidate 8 (part w′ a (a + 24)) ≡ take 8 (insert ahead x (slots candidate 8 (part w a (a + 24))))
@@ -79,7 +65,7 @@ pub record Offered (w w′ : List ℕ) (a : ℕ) (x : Candidate) : Type 0 where
 -- rank b is still to be met among v's neighbors, of which those from i up to e are left; or v was offered to it
 pub record Waiting (w₀ w : List ℕ) (s : SwapRoom) (a b v i e : ℕ) : Type 0 where
   pub tallied : at w (s .tallies + b) ≡ linksTo (rowsAt w₀ (s .level)) (ownersAt w₀ (s .level)) v b
-  pub unmet : linksIn (part w₀ i e) (ownersAt w₀ (s .level)) b ≡ linksTo (rowsAt w₀ (s .level)) (ownersAt w₀ (s .level)) v b
+  pub unmet : linksIn (part (neighborsAt w₀ (s .level)) i e) (ownersAt w₀ (s .level)) b ≡ linksTo (rowsAt w₀ (s .level)) (ownersAt w₀ (s .level)) v b
   pub same : listAt w s a b ≡ listAt w₀ s a b
 
 pub record Met (w₀ w : List ℕ) (s : SwapRoom) (a b v : ℕ) : Type 0 where
@@ -95,7 +81,7 @@ pub record Offering (w₀ w : List ℕ) (s : SwapRoom) (a v i e : ℕ) : Type 0 
 -- v was listed
 pub record Listed (w w′ : List ℕ) (s : SwapRoom) (v : ℕ) : Type 0 where
   pub kept : Kept (s .tallies) (length w) w′ w
-  pub clear : Clear w′ s
+  pub clear : Clear w′ (s .tallies) (s .limits .ranks)
   pub lists
       : (a b : ℕ)
       → a < s .limits .ranks
@@ -118,6 +104,10 @@ Holding w s owners =
 unfoldable pub proposed : ℕ → List (List ℕ) → Candidate → List Proposal → Candidate → List Proposal
 proposed n rows x ps y = cond (ltb 0 (propose rows x y .net)) (take n (insert sooner (propose rows x y) ps)) ps
 
+-- a candidate, as the code holds it
+abbrev pub candidateOf : Member → Candidate
+candidateOf x = candidate (x .there) (x .home) (x .vertex)
+
 -- numbers that a product can be made of: they add up below 2^32, and the vertex is one of n
 pub record Fair (n : ℕ) (x : Candidate) : Type 0 where
   pub there-few : x .there ≤ 131072
@@ -134,6 +124,18 @@ pub record Named (n : ℕ) (p : Proposal) : Type 0 where
 abbrev pub usedBy : List ℕ → Step → List ℕ
 usedBy used (move v r) = used
 usedBy used (swap u v) = u ∷ v ∷ used
+
+-- u and v change places, and are used
+unfoldable pub changed : List ℕ → SwapRoom → ℕ → ℕ → List ℕ
+changed w s u v =
+    let o = s .level .owners in
+    set (set (set (set w (o + u) (at w (o + v))) (o + v) (at w (o + u))) (s .used + u) 1) (s .used + v) 1
+
+-- rank a's load gives x for y, and rank b's y for x
+unfoldable pub traded : List ℕ → ℕ → ℕ → ℕ → ℕ → ℕ → List ℕ
+traded w loads a b x y =
+    let w₁ = set w (loads + a) (at w (loads + a) - x + y) in
+    set w₁ (loads + b) (at w₁ (loads + b) - y + x)
 
 -- after some steps
 pub record Done (w w′ : List ℕ) (s : SwapRoom) (used : List ℕ) (number : ℕ) (steps : List Step) : Type 0 where

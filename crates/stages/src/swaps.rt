@@ -4,16 +4,21 @@ ghost use mathlib.Core.Bool.{Bool, true, false};
 ghost use mathlib.Core.List.{List};
 ghost use Prim.Native.Nat.{ℕ, _+_, _-_, _*_, _≤_, _<_, _^_};
 ghost use lib.ListN.{length, set};
-ghost use Rattle.links.specs.Lists.{at, All, elem, foldl};
+ghost use Rattle.links.specs.Lists.{at, All, foldl};
 ghost use Rattle.links.specs.Graph.{row, linksIn, linksTo};
-ghost use Rattle.stages.specs.Level.{offsetsAt, rowsAt, weightsAt, ownersAt};
+ghost use Rattle.stages.specs.Level.{rowsAt, weightsAt, ownersAt, balanceIn};
 ghost use Rattle.stages.specs.Moves.{linked, gain, swap};
+ghost use Rattle.stages.specs.Swaps.{inBalance, applies};
 ghost use Rattle.stages.specs.Slots.{candidate, proposal, slots};
-ghost use Rattle.stages.specs.SwapsCode.{Given, Fair, proposed};
+ghost use Rattle.stages.specs.SwapsCode.{Given, Standing, Marked, candidateOf, Fair, proposed};
 use crate::level::HierarchyLevel;
 use crate::level::Limits;
+use crate::slots::Member;
 use crate::slots::add;
+use crate::slots::member_at;
+use links::holds;
 use links::index;
+use links::wide;
 
 // What the swaps work on: the level and the limits; a used flag for each vertex; a load and a tally for each rank; for each ordered
 // rank pair 8 candidates of three numbers.
@@ -28,39 +33,20 @@ pub struct SwapRoom {
 
 // ---- rows
 
-// Where v's neighbors begin, and those of the vertex before it end.
-fn row_start(w: &[u32], s: SwapRoom, v: usize) -> usize
-    requires { ⌜ Given (now w) s × (v ≤ s .level .vertices) ⌝ }
-    ensures { λ r. ⌜ r ≡ s .level .neighbors + at (offsetsAt (now (w .entry)) (s .level)) v ⌝ }
-{
-    let offsets = s.level.offsets;
-    s.level.neighbors + index(w[offsets + v])
-}
-
+// The neighbors of v.
 fn row_of<'a>(w: &'a [u32], s: SwapRoom, v: usize) -> &'a [u32]
     requires { ⌜ Given (now w) s × (v < s .level .vertices) ⌝ }
     ensures { λ r. ⌜ now r ≡ row (rowsAt (now (w .entry)) (s .level)) v ⌝ }
 {
-    let a = row_start(w, s, v);
-    let e = row_start(w, s, v + 1);
+    let offsets = s.level.offsets;
+    let neighbors = s.level.neighbors;
+    let a = neighbors + index(w[offsets + v]);
+    let e = neighbors + index(w[offsets + v + 1]);
     &w[a..e]
 }
 
-fn holds(row: &[u32], x: u32) -> bool
-    ensures { λ r. ⌜ r ≡ elem x (now (row .entry)) ⌝ }
-{
-    let mut i = 0;
-    while i < row.len() {
-        if row[i] == x {
-            return true;
-        }
-        i += 1;
-    }
-    false
-}
-
 // 1 where u and v are linked.
-fn linked(w: &[u32], s: SwapRoom, u: usize, v: u32) -> u32
+fn linked(w: &[u32], s: SwapRoom, u: usize, v: usize) -> u32
     requires { ⌜ Given (now w) s × (u < s .level .vertices) ⌝ }
     ensures { λ r. ⌜ (r ≤ 1) × (r ≡ linked (rowsAt (now (w .entry)) (s .level)) u v) ⌝ }
 {
@@ -69,4 +55,148 @@ fn linked(w: &[u32], s: SwapRoom, u: usize, v: u32) -> u32
     } else {
         0
     }
+}
+
+// ---- proposals
+
+// The product of two candidates joins the proposals.
+fn propose(list: &mut [u32], room: usize, w: &[u32], s: SwapRoom, x: Member, y: Member)
+    requires { ⌜ Given (now w) s × (length (now list) ≡ 3 * room) × Fair (s .level .vertices) (candidateOf x) × Fair (s .level .vertices) (candidateOf y) ⌝ }
+    ensures { λ _. ⌜ slots proposal room (now (list .exit))
+        ≡ proposed room (rowsAt (now (w .entry)) (s .level)) (candidateOf x) (slots proposal room (now (list .entry))) (candidateOf y) ⌝ }
+{
+    let u = x.vertex;
+    let v = y.vertex;
+    let there = x.there + y.there;
+    let home = x.home + y.home + 2 * linked(w, s, index(u), index(v));
+    if home < there {
+        add(list, room, there - home, u, v);
+    }
+}
+
+// The products of one candidate and a list of n slots.
+fn propose_row(list: &mut [u32], room: usize, w: &[u32], s: SwapRoom, x: Member, back: &[u32], n: usize)
+    requires { ⌜ Given (now w) s × (length (now list) ≡ 3 * room) × Fair (s .level .vertices) (candidateOf x)
+        × (length (now back) ≡ 3 * n) × All (Fair (s .level .vertices)) (slots candidate n (now back)) ⌝ }
+    ensures { λ _. ⌜ slots proposal room (now (list .exit))
+        ≡ foldl (proposed room (rowsAt (now (w .entry)) (s .level)) (candidateOf x)) (slots proposal room (now (list .entry)))
+        (slots candidate n (now (back .entry))) ⌝ }
+{
+    let mut j = 0;
+    while j < n {
+        let y = member_at(back, j);
+        if y.there == 0 {
+            return;
+        }
+        propose(list, room, w, s, x, y);
+        j += 1;
+    }
+}
+
+// All products of two lists of n slots.
+fn propose_all(list: &mut [u32], room: usize, w: &[u32], s: SwapRoom, fore: &[u32], back: &[u32], n: usize)
+    requires { ⌜ Given (now w) s × (length (now list) ≡ 3 * room)
+        × (length (now fore) ≡ 3 * n) × All (Fair (s .level .vertices)) (slots candidate n (now fore))
+        × (length (now back) ≡ 3 * n) × All (Fair (s .level .vertices)) (slots candidate n (now back)) ⌝ }
+    ensures { λ _. ⌜ slots proposal room (now (list .exit))
+        ≡ foldl (λ ps x. foldl (proposed room (rowsAt (now (w .entry)) (s .level)) x) ps (slots candidate n (now (back .entry))))
+        (slots proposal room (now (list .entry))) (slots candidate n (now (fore .entry))) ⌝ }
+{
+    let mut i = 0;
+    while i < n {
+        let x = member_at(fore, i);
+        if x.there == 0 {
+            return;
+        }
+        propose_row(list, room, w, s, x, back, n);
+        i += 1;
+    }
+}
+
+// ---- whether a swap applies
+
+// a − b, or 0.
+fn less(a: u32, b: u32) -> u32
+    ensures { λ r. ⌜ r ≡ a - b ⌝ }
+{
+    if b < a { a - b } else { 0 }
+}
+
+// How many of a row's vertices rank r owns.
+fn links_in(row: &[u32], owners: &[u32], r: u32) -> u32
+    requires { ⌜ (length (now row) ≤ 131072) × ((i : ℕ) → i < length (now row) → at (now row) i < length (now owners)) ⌝ }
+    ensures { λ n. ⌜ (n ≤ length (now (row .entry))) × (n ≡ linksIn (now (row .entry)) (now (owners .entry)) r) ⌝ }
+{
+    let mut n: u32 = 0;
+    let mut i: usize = 0;
+    while i < row.len() {
+        let u = index(row[i]);
+        if owners[u] == r {
+            n += 1;
+        }
+        i += 1;
+    }
+    n
+}
+
+// How many of v's neighbors rank r owns.
+fn links_to(w: &[u32], s: SwapRoom, v: usize, r: u32) -> u32
+    requires { ⌜ Given (now w) s × (v < s .level .vertices) ⌝ }
+    ensures { λ n. ⌜ (n ≤ 131072) × (n ≡ linksTo (rowsAt (now (w .entry)) (s .level)) (ownersAt (now (w .entry)) (s .level)) v r) ⌝ }
+{
+    let a = s.level.owners;
+    let e = a + s.level.vertices;
+    links_in(row_of(w, s, v), &w[a..e], r)
+}
+
+// What a swap of u and v gains from present owners; 0 if that is not above 0.
+fn swap_gain(w: &[u32], s: SwapRoom, u: usize, v: usize) -> u32
+    requires { ⌜ Given (now w) s × (u < s .level .vertices) × (v < s .level .vertices) ⌝ }
+    ensures { λ r. ⌜ r ≡ gain (rowsAt (now (w .entry)) (s .level)) (ownersAt (now (w .entry)) (s .level)) (swap u v) ⌝ }
+{
+    let owners = s.level.owners;
+    let a = w[owners + u];
+    let b = w[owners + v];
+    let x = less(links_to(w, s, u, b), linked(w, s, u, v));
+    let y = less(links_to(w, s, v, a), linked(w, s, v, u));
+    let home = links_to(w, s, u, a) + links_to(w, s, v, b);
+    less(x + y, home)
+}
+
+// A rank's load is from floor to cap.
+fn in_balance(w: &[u32], s: SwapRoom, r: usize) -> bool
+    requires { ⌜ Standing (now w) s × (r < s .limits .ranks) ⌝ }
+    ensures { λ b. ⌜ b ≡ inBalance (balanceIn (s .limits)) (rowsAt (now (w .entry)) (s .level)) (weightsAt (now (w .entry)) (s .level))
+        (ownersAt (now (w .entry)) (s .level)) r ⌝ }
+{
+    let loads = s.loads;
+    let load = wide(w[loads + r]);
+    if load < s.limits.floor {
+        return false;
+    }
+    load <= s.limits.cap
+}
+
+// Whether the swap of u and v applies.
+fn applies(w: &[u32], s: SwapRoom, u: usize, v: usize) -> bool
+    requires { ⌜ Standing (now w) s × (u < s .level .vertices) × (v < s .level .vertices) ⌝ }
+    ensures { λ r. ⌜ ((used : List ℕ) → Marked (now (w .entry)) s used
+        → r ≡ applies (balanceIn (s .limits)) (rowsAt (now (w .entry)) (s .level)) (weightsAt (now (w .entry)) (s .level)) used
+        (ownersAt (now (w .entry)) (s .level)) u v) ⌝ }
+{
+    let used = s.used;
+    let owners = s.level.owners;
+    if w[used + u] != 0 {
+        return false;
+    }
+    if w[used + v] != 0 {
+        return false;
+    }
+    if swap_gain(w, s, u, v) == 0 {
+        return false;
+    }
+    if in_balance(w, s, index(w[owners + u])) {
+        return in_balance(w, s, index(w[owners + v]));
+    }
+    false
 }
