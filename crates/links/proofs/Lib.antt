@@ -3,3 +3,4 @@ pub mod PartLaws
 pub mod BestLaws
 pub mod SoundLaws
 pub mod RowLaws
+pub mod ListTestLaws

@@ -1,8 +1,14 @@
 // Loads and links: rules 1 and 2 of document 01, the neighbor query and the list test, options and stats, parts of the lent work slice.
+mod lists;
 mod options;
 mod owners;
 mod parts;
 
+pub use lists::holds;
+pub use lists::lists_cause;
+pub use lists::neighbors_cause;
+pub use lists::neighbors_of;
+pub use lists::vertex_count;
 pub use options::AbtmMultilevelOptions;
 pub use options::AbtmMultilevelStats;
 pub use owners::Assignment;
