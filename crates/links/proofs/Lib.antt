@@ -4,3 +4,4 @@ pub mod BestLaws
 pub mod SoundLaws
 pub mod RowLaws
 pub mod ListTestLaws
+pub mod OwnerLaws

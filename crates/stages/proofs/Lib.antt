@@ -4,6 +4,8 @@ pub mod SlotLaws
 pub mod TargetLaws
 pub mod MovesLaws
 pub mod MovesSliceLaws
+pub mod TallySliceLaws
+pub mod LoadSliceLaws
 pub mod CutLaws
 pub mod StepLaws
 pub mod GrowthLaws

@@ -8,38 +8,36 @@ use lib.ListN.{length}
 use lib.Dec.{leb, ltb, eqb}
 use Rattle.links.specs.Lists.{at, above}
 use Rattle.links.specs.Parts.{Kept}
-use Rattle.links.specs.Graph.{linksTo}
+use Rattle.links.specs.Graph.{linksTo, load}
 use Rattle.stages.specs.Level.{offsetsAt, neighborsAt, rowsAt, weightsAt, ownersAt, Ready}
 use Rattle.stages.specs.declared.level.HierarchyLevel.{HierarchyLevel}
 use Rattle.stages.specs.declared.moves.Offer.{Offer}
 use Rattle.stages.specs.declared.moves.Refined.{Refined}
 use Rattle.stages.specs.declared.moves.Refined.the-variants as refined
 
--- ---- tallies: a vertex's neighbors counted by their owners
+-- ---- what a level's ranks have in the work slice
 
 -- every owner is a rank
 abbrev pub Ranked : List ℕ → HierarchyLevel → ℕ → Type 0
-Ranked w l k = (v : ℕ) → v < l .vertices → at (ownersAt w l) v < k
+Ranked w l ranks = (v : ℕ) → v < l .vertices → at (ownersAt w l) v < ranks
+
+-- a level whose owners are ranks, and room beyond it, from a on, for a number for each rank
+pub record Roomed (w : List ℕ) (l : HierarchyLevel) (a ranks : ℕ) : Type 0 where
+  pub ready : Ready w l a
+  pub room : a + ranks ≤ length w
+  pub ranked : Ranked w l ranks
 
 -- n numbers from a on are 0
 abbrev pub Clear : List ℕ → ℕ → ℕ → Type 0
 Clear w a n = (i : ℕ) → i < n → at w (a + i) ≡ 0
 
--- a level, room beyond it for a number for each rank, and a vertex
-pub record Tallying (w : List ℕ) (l : HierarchyLevel) (tallies ranks v : ℕ) : Type 0 where
-  pub ready : Ready w l tallies
-  pub room : tallies + ranks ≤ length w
-  pub ranked : Ranked w l ranks
-  pub vertex : v < l .vertices
+-- the loads are those of the ranks
+abbrev pub Loaded : List ℕ → HierarchyLevel → (loads ranks : ℕ) → Type 0
+Loaded w l loads ranks = (r : ℕ) → r < ranks → at w (loads + r) ≡ load (weightsAt w l) (ownersAt w l) r
 
--- each rank's tally is the number of v's neighbors that it owns
-pub record Tallied (w w′ : List ℕ) (l : HierarchyLevel) (tallies ranks v : ℕ) : Type 0 where
-  pub counts : (r : ℕ) → r < ranks → at w′ (tallies + r) ≡ linksTo (rowsAt w l) (ownersAt w l) v r
-  pub kept : Kept tallies (tallies + ranks) w′ w
-
--- ranks without a neighbor of v have the tally 0
-abbrev pub Untouched : List ℕ → HierarchyLevel → (tallies ranks v : ℕ) → Type 0
-Untouched w l tallies ranks v = (r : ℕ) → r < ranks → linksTo (rowsAt w l) (ownersAt w l) v r ≡ 0 → at w (tallies + r) ≡ 0
+-- the tallies are v's neighbors counted by their owners
+abbrev pub Tallied : List ℕ → HierarchyLevel → (tallies ranks v : ℕ) → Type 0
+Tallied w l tallies ranks v = (r : ℕ) → r < ranks → at w (tallies + r) ≡ linksTo (rowsAt w l) (ownersAt w l) v r
 
 -- ---- the choice of a target
 
