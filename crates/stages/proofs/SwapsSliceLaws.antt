@@ -5,6 +5,7 @@ use mathlib.Core.Bool.{Bool, true, false, cond, not, _&&_}
 use mathlib.Core.List.{List, [], _∷_, _++_}
 use native.Mathlib.Omega.{arith}
 use lib.Dec.{eqb, ltb, leb}
+use borrow.Author.Tests.{lt-ltb, le-ltb}
 use lib.ListN.{length, set, length-set}
 use Rattle.links.specs.Lists.{at, elem}
 use Rattle.links.specs.Parts.{part, Kept}
@@ -12,10 +13,12 @@ use Rattle.links.specs.Graph.{row, strictlyRising, Sound, linksIn, linksTo, loa
 use Rattle.links.proofs.PartLaws.{length-part, getD-part, part-part, kept-part-before, kept-part-after}
 use Rattle.links.proofs.RowLaws.{length-row, row-below}
 use Rattle.links.proofs.ListLaws.{split}
-use Rattle.stages.specs.Level.{offsetsAt, neighborsAt, rowsAt, weightsAt, ownersAt, Laid, Ready}
-use Rattle.stages.specs.SwapsCode.{Given, Standing}
+use Rattle.stages.specs.Level.{offsetsAt, neighborsAt, rowsAt, weightsAt, ownersAt, Laid, Ready, balanceIn}
+use Rattle.stages.specs.Moves.{swap, gain}
+use Rattle.stages.specs.Swaps.{inBalance, applies}
+use Rattle.stages.specs.SwapsCode.{Given, Standing, Marked}
 use Rattle.stages.specs.declared.swaps.SwapRoom.{SwapRoom}
-use Rattle.stages.proofs.MovesSliceLaws.{offset-place, owner-place, vertices-all, neighbors-all, owners-all, rows-all, row-part, row-rises, row-ends, entry-below}
+use Rattle.stages.proofs.MovesSliceLaws.{ready-by, owner-place, vertices-all, neighbors-all, owners-all, rows-all, row-part, row-rises, row-ends, entry-below}
 
 -- what a row's two offsets say
 pub record RowAt (w : List ℕ) (s : SwapRoom) (v x y : ℕ) : Type 0 where
@@ -24,31 +27,24 @@ pub record RowAt (w : List ℕ) (s : SwapRoom) (v x y : ℕ) : Type 0 where
   pub row-is : row (rowsAt w (s .level)) v ≡ part w (s .level .neighbors + x) (s .level .neighbors + y)
 
 module _ {w : List ℕ} {s : SwapRoom} (g : Given w s) where
+  -- the level, with all of the slice
+  pub whole : Ready w (s .level) (length w)
+  whole = ready-by (length w) (g .ready) (g .ready .inside) (omega arith)
+
   pub vertices-are : length (rowsAt w (s .level)) ≡ s .level .vertices
   vertices-are = rows-all (g .ready)
 
   module _ (v : ℕ) (h : v < s .level .vertices) where
-    from : ℕ
-    from = at (offsetsAt w (s .level)) v
-
-    to : ℕ
-    to = at (offsetsAt w (s .level)) (v + 1)
-
-    pub row-at : (x y : ℕ) → x ≡ at w (s .level .offsets + v) → y ≡ at w (s .level .offsets + v + 1) → RowAt w s v x y
+    pub row-at : (x y : ℕ) → x ≡ at (offsetsAt w (s .level)) v → y ≡ at (offsetsAt w (s .level)) (v + 1) → RowAt w s v x y
     row-at x y p q =
         let l = s .level in
-        let a : at (offsetsAt w l) v ≡ x = offset-place (g .ready) v (omega arith) ∙ sym p in
-        let z : l .offsets + (v + 1) ≡ l .offsets + v + 1 = omega arith in
-        let b : at (offsetsAt w l) (v + 1) ≡ y = offset-place (g .ready) (v + 1) (omega arith) ∙ ap (at w) z ∙ sym q in
-        let e : at (offsetsAt w l) (v + 1) ≤ l .entries = row-ends (g .ready) v h in
         record {
-          rises = omega (arith, row-rises (g .ready) v h, a, b);
-          ends = omega (arith, e, b, g .ready .laid, g .ready .inside);
+          rises = omega (arith, row-rises (g .ready) v h);
+          ends = omega (arith, row-ends (g .ready) v h, g .ready .laid, g .ready .inside);
           row-is =
               row-part (g .ready) v h
-              ∙ part-part w (l .neighbors) (l .neighbors + l .entries) (at (offsetsAt w l) v) (at (offsetsAt w l) (v + 1)) (omega arith)
-              ∙ ap (λ (i : ℕ). part w (l .neighbors + i) (l .neighbors + at (offsetsAt w l) (v + 1))) a
-              ∙ ap (λ (i : ℕ). part w (l .neighbors + x) (l .neighbors + i)) b;
+              ∙ part-part w (l .neighbors) (l .neighbors + l .entries) (at (offsetsAt w l) v) (at (offsetsAt w l) (v + 1)) (omega (arith, row-ends (g .ready) v h))
+              ∙ rw (p, q);
         }
 
     in-rows : v < length (rowsAt w (s .level))
@@ -75,3 +71,25 @@ module _ {w : List ℕ} {s : SwapRoom} (g : Given w s) where
 
     pub owner-ranked : at w (s .level .owners + v) < s .limits .ranks
     owner-ranked = rw owner-is at (g .ranked v h)
+
+-- the five tests of a swap, as the code makes them
+pub applies-is
+    : (w : List ℕ) (s : SwapRoom) (used : List ℕ)
+    → Marked w s used
+    → (u v : ℕ)
+    → u < s .level .vertices
+    → v < s .level .vertices
+    → applies (balanceIn (s .limits)) (rowsAt w (s .level)) (weightsAt w (s .level)) used (ownersAt w (s .level)) u v
+    ≡ (eqb (at w (s .used + u)) 0 && eqb (at w (s .used + v)) 0
+      && ltb 0 (gain (rowsAt w (s .level)) (ownersAt w (s .level)) (swap u v))
+      && inBalance (balanceIn (s .limits)) (rowsAt w (s .level)) (weightsAt w (s .level)) (ownersAt w (s .level)) (at (ownersAt w (s .level)) u)
+      && inBalance (balanceIn (s .limits)) (rowsAt w (s .level)) (weightsAt w (s .level)) (ownersAt w (s .level)) (at (ownersAt w (s .level)) v))
+unfolding applies
+applies-is w s used m u v h k = rw (m u h, m v k)
+
+pub gains-not : (g r : ℕ) → r ≡ g → r ≡ 0 → ltb 0 g ≡ false
+gains-not g r e d = le-ltb 0 g (omega arith)
+
+pub gains : (g r : ℕ) → r ≡ g → (r ≡ 0 → ⊥) → ltb 0 g ≡ true
+gains zero r e d = absurd (d e)
+gains (suc g) r e d = lt-ltb 0 (suc g) (omega arith)

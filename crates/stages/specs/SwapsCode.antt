@@ -12,7 +12,7 @@ use Rattle.links.specs.Graph.{linksIn, linksTo, load}
 use Rattle.stages.specs.Level.{neighborsAt, rowsAt, weightsAt, ownersAt, Ready, balanceIn}
 use Rattle.stages.specs.Moves.{Step, move, swap, after}
 use Rattle.stages.specs.Swaps.{Candidate, Proposal, ahead, sooner, propose, candidates, applies, swapPass, allProposals, refineFinePairSwaps}
-use Rattle.stages.specs.MovesCode.{Ranked, Clear}
+use Rattle.stages.specs.MovesCode.{Ranked, Clear, Loaded}
 use Rattle.stages.specs.Slots.{candidate, slots}
 use Rattle.stages.specs.declared.level.HierarchyLevel.{HierarchyLevel}
 use Rattle.stages.specs.declared.level.Limits.{Limits}
@@ -41,7 +41,7 @@ pub record Given (w : List ℕ) (s : SwapRoom) : Type 0 where
 -- and the loads are those of the owners
 pub record Standing (w : List ℕ) (s : SwapRoom) : Type 0 where
   pub given : Given w s
-  pub loaded : (r : ℕ) → r < s .limits .ranks → at w (s .loads + r) ≡ load (weightsAt w (s .level)) (ownersAt w (s .level)) r
+  pub loaded : Loaded w (s .level) (s .loads) (s .limits .ranks)
 
 -- the used flags are those of the used vertices
 abbrev pub Marked : List ℕ → SwapRoom → List ℕ → Type 0

@@ -13,6 +13,8 @@ ghost use Rattle.stages.specs.Slots.{candidate, proposal, slots};
 ghost use Rattle.stages.specs.SwapsCode.{Given, Standing, Marked, candidateOf, Fair, proposed};
 use crate::level::HierarchyLevel;
 use crate::level::Limits;
+use crate::moves::owner_in;
+use crate::moves::row_start;
 use crate::slots::Member;
 use crate::slots::add;
 use crate::slots::member_at;
@@ -38,10 +40,9 @@ fn row_of<'a>(w: &'a [u32], s: SwapRoom, v: usize) -> &'a [u32]
     requires { ⌜ Given (now w) s × (v < s .level .vertices) ⌝ }
     ensures { λ r. ⌜ now r ≡ row (rowsAt (now (w .entry)) (s .level)) v ⌝ }
 {
-    let offsets = s.level.offsets;
     let neighbors = s.level.neighbors;
-    let a = neighbors + index(w[offsets + v]);
-    let e = neighbors + index(w[offsets + v + 1]);
+    let a = neighbors + row_start(w, s.level, v);
+    let e = neighbors + row_start(w, s.level, v + 1);
     &w[a..e]
 }
 
@@ -185,7 +186,6 @@ fn applies(w: &[u32], s: SwapRoom, u: usize, v: usize) -> bool
         (ownersAt (now (w .entry)) (s .level)) u v) ⌝ }
 {
     let used = s.used;
-    let owners = s.level.owners;
     if w[used + u] != 0 {
         return false;
     }
@@ -195,8 +195,8 @@ fn applies(w: &[u32], s: SwapRoom, u: usize, v: usize) -> bool
     if swap_gain(w, s, u, v) == 0 {
         return false;
     }
-    if in_balance(w, s, index(w[owners + u])) {
-        return in_balance(w, s, index(w[owners + v]));
+    if in_balance(w, s, owner_in(w, s.level, u)) {
+        return in_balance(w, s, owner_in(w, s.level, v));
     }
     false
 }

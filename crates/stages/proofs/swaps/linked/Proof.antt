@@ -9,8 +9,6 @@ use Rattle.stages.proofs.swaps.linked.Statement.{statement}
 use Rattle.stages.proofs.swaps.linked.Tie as tie
 use Rattle.stages.proofs.swaps.linked.Reads as reads
 use Rattle.stages.proofs.swaps.linked.Lts as lts
-use Rattle.stages.proofs.swaps.holds.Reads as holds-reads
-use Rattle.stages.proofs.swaps.row_of.Reads as row-of-reads
 
 -- src/swaps.rt:64:14
 row-of-requires : tie.Need-row-of-requires

@@ -1,3 +1,9 @@
+use Prim.Native.Nat.{_+_}
+use mathlib.Core.Path.{sym}
+use Rattle.links.specs.Lists.{at}
+use Rattle.stages.specs.Level.{rowsAt, ownersAt}
+use Rattle.stages.proofs.SwapsSliceLaws.{owner-is}
+use Rattle.stages.proofs.SwapListLaws.{gain-of}
 use borrow.Author.Needs.{needs}
 use Rattle.stages.proofs.swaps.swap_gain.Statement.{statement}
 use Rattle.stages.proofs.swaps.swap_gain.Tie as tie
@@ -77,7 +83,13 @@ less-requires-3 c κs = search needs
 
 -- src/swaps.rt:166:1
 returns : tie.Need-returns
-returns c = search needs
+returns c =
+    let a = c .before .before .before .before .before .before .before .before .before .before .before .before .args in
+    let g = c .before .before .before .before .before .before .before .before .before .before .before .before .pre .0 in
+    gain-of (rowsAt (a .w .now) (a .s .level)) (ownersAt (a .w .now) (a .s .level)) (a .u) (a .v) (at (a .w .now) (a .s .level .owners + a .u)) (at (a .w .now) (a .s .level .owners + a .v))
+    (c .before .before .before .before .before .before .before .before .links-to .result) (c .before .before .before .before .before .before .before .linked .result) (c .before .before .before .before .before .before .less .result) (c .before .before .before .before .before .links-to2 .result) (c .before .before .before .before .linked2 .result) (c .before .before .before .less2 .result) (c .before .before .links-to3 .result) (c .before .links-to4 .result) (c .less3 .result)
+    (sym (owner-is g (a .u) (c .before .before .before .before .before .before .before .before .before .before .before .before .pre .1))) (sym (owner-is g (a .v) (c .before .before .before .before .before .before .before .before .before .before .before .before .pre .2)))
+    (c .before .before .before .before .before .before .before .before .links-to .ensures .1) (c .before .before .before .before .before .before .before .linked .ensures .1) (c .before .before .before .before .before .before .less .ensures) (c .before .before .before .before .before .links-to2 .ensures .1) (c .before .before .before .before .linked2 .ensures .1) (c .before .before .before .less2 .ensures) (c .before .before .links-to3 .ensures .1) (c .before .links-to4 .ensures .1) (c .less3 .ensures)
 
 pub swap-gain-spec : {M : Type 1} → statement M
 swap-gain-spec =
