@@ -11,3 +11,4 @@ pub mod StepLaws
 pub mod GrowthLaws
 pub mod SwapListLaws
 pub mod SwapsSliceLaws
+pub mod SwapStepLaws

@@ -3,7 +3,7 @@
 use Prim.Native.Nat.{ℕ, zero, suc, _+_, _-_, _*_, _≤_, _<_}
 use mathlib.Core.Path.{_≡_, refl, sym, ap, _∙_}
 use mathlib.Core.Bool.{Bool, true, false, cond, _&&_}
-use mathlib.Core.List.{List, [], _∷_, _++_, map, append-assoc}
+use mathlib.Core.List.{List, [], _∷_, _++_, map, append-assoc, append-nil}
 use native.Mathlib.Omega.{arith}
 use native.Mathlib.Numerals.{add-one}
 use native.Mathlib.Nat.{mul-le-mul-right}
@@ -333,3 +333,15 @@ module _ (a p q r s t : Bool) (e : a ≡ (p && q && r && s && t)) where
 
   pub test-5 : (x : Bool) → p ≡ true → q ≡ true → r ≡ true → s ≡ true → x ≡ t → x ≡ a
   test-5 x h k l m n = n ∙ sym (e ∙ rw (h, k, l, m))
+
+-- ---- proposals taken one by one
+
+abbrev pub snoc : List Proposal → Proposal → List Proposal
+snoc ps p = ps ++ p ∷ []
+
+snoc-from : (ps qs : List Proposal) → foldl snoc ps qs ≡ ps ++ qs
+snoc-from ps [] = sym (append-nil ps)
+snoc-from ps (q ∷ qs) = snoc-from (snoc ps q) qs ∙ append-assoc ps (q ∷ []) qs
+
+pub snoc-all : (qs : List Proposal) → foldl snoc [] qs ≡ qs
+snoc-all qs = snoc-from [] qs

@@ -1,5 +1,5 @@
 -- What the code of rule 7 keeps in the work slice, and what it promises. Assumes nothing.
-use Prim.Native.Nat.{ℕ, zero, suc, _+_, _-_, _*_, _≤_, _<_}
+use Prim.Native.Nat.{ℕ, _+_, _-_, _*_, _≤_, _<_, _^_}
 use mathlib.Core.Path.{_≡_}
 use mathlib.Core.Bool.{Bool, not, _&&_, cond}
 use mathlib.Core.List.{List, [], _∷_}
@@ -136,6 +136,22 @@ unfoldable pub traded : List ℕ → ℕ → ℕ → ℕ → ℕ → ℕ → Lis
 traded w loads a b x y =
     let w₁ = set w (loads + a) (at w (loads + a) - x + y) in
     set w₁ (loads + b) (at w₁ (loads + b) - y + x)
+
+-- loads from which x and y can be taken, and to which the other can be added
+pub record Tradable (w : List ℕ) (loads a b x y : ℕ) : Type 0 where
+  pub first-in : loads + a < length w
+  pub second-in : loads + b < length w
+  pub gives : x ≤ at w (loads + a)
+  pub takes : y ≤ at w (loads + b)
+  pub first-light : at w (loads + a) < 2 ^ 31
+  pub second-light : at w (loads + b) < 2 ^ 31
+
+-- u and v have changed places
+pub record Swapped (w w′ : List ℕ) (s : SwapRoom) (u v : ℕ) : Type 0 where
+  pub standing : Standing w′ s
+  pub kept : Kept (s .level .owners) (s .tallies) w′ w
+  pub owners-are : ownersAt w′ (s .level) ≡ after (ownersAt w (s .level)) (swap u v)
+  pub marked : (used : List ℕ) → Marked w s used → Marked w′ s (u ∷ v ∷ used)
 
 -- after some steps
 pub record Done (w w′ : List ℕ) (s : SwapRoom) (used : List ℕ) (number : ℕ) (steps : List Step) : Type 0 where

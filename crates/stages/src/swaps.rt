@@ -1,7 +1,7 @@
 // Rule 7: swaps on the finest level, over one lent work slice.
 ghost use mathlib.Core.Path.{_≡_};
 ghost use mathlib.Core.Bool.{Bool, true, false};
-ghost use mathlib.Core.List.{List};
+ghost use mathlib.Core.List.{List, [], _∷_};
 ghost use Prim.Native.Nat.{ℕ, _+_, _-_, _*_, _≤_, _<_, _^_};
 ghost use lib.ListN.{length, set};
 ghost use Rattle.links.specs.Lists.{at, All, foldl};
@@ -10,11 +10,12 @@ ghost use Rattle.stages.specs.Level.{rowsAt, weightsAt, ownersAt, balanc
 ghost use Rattle.stages.specs.Moves.{linked, gain, swap};
 ghost use Rattle.stages.specs.Swaps.{inBalance, applies};
 ghost use Rattle.stages.specs.Slots.{candidate, proposal, slots};
-ghost use Rattle.stages.specs.SwapsCode.{Given, Standing, Marked, candidateOf, Fair, proposed};
+ghost use Rattle.stages.specs.SwapsCode.{Given, Standing, Marked, candidateOf, Fair, Named, proposed, changed, traded, Tradable, Swapped, Taken};
 use crate::level::HierarchyLevel;
 use crate::level::Limits;
 use crate::moves::owner_in;
 use crate::moves::row_start;
+use crate::moves::weight_in;
 use crate::slots::Member;
 use crate::slots::add;
 use crate::slots::member_at;
@@ -199,4 +200,72 @@ fn applies(w: &[u32], s: SwapRoom, u: usize, v: usize) -> bool
         return in_balance(w, s, owner_in(w, s.level, v));
     }
     false
+}
+
+// ---- one swap
+
+// u and v change places, and are used.
+fn change(work: &mut [u32], s: SwapRoom, u: usize, v: usize)
+    requires { ⌜ Given (now work) s × (u < s .level .vertices) × (v < s .level .vertices) ⌝ }
+    ensures { λ _. ⌜ now (work .exit) ≡ changed (now (work .entry)) s u v ⌝ }
+{
+    let owners = s.level.owners;
+    let used = s.used;
+    let a = work[owners + u];
+    let b = work[owners + v];
+    work[owners + u] = b;
+    work[owners + v] = a;
+    work[used + u] = 1;
+    work[used + v] = 1;
+}
+
+// Rank a's load gives x for y, and rank b's y for x.
+fn trade(work: &mut [u32], loads: usize, a: usize, b: usize, x: u32, y: u32)
+    requires { ⌜ Tradable (now work) loads a b x y ⌝ }
+    ensures { λ _. ⌜ now (work .exit) ≡ traded (now (work .entry)) loads a b x y ⌝ }
+{
+    work[loads + a] = work[loads + a] - x + y;
+    work[loads + b] = work[loads + b] - y + x;
+}
+
+// u and v change places, and their ranks' loads follow.
+fn swap(work: &mut [u32], s: SwapRoom, u: usize, v: usize)
+    requires { ⌜ Standing (now work) s × (u < s .level .vertices) × (v < s .level .vertices) ⌝ }
+    ensures { λ _. ⌜ Swapped (now (work .entry)) (now (work .exit)) s u v ⌝ }
+{
+    let a = owner_in(&work[..], s.level, u);
+    let b = owner_in(&work[..], s.level, v);
+    let x = weight_in(&work[..], s.level, u);
+    let y = weight_in(&work[..], s.level, v);
+    change(work, s, u, v);
+    trade(work, s.loads, a, b, x, y);
+}
+
+// A proposal's turn: 1 if the swap was made.
+fn try_swap(work: &mut [u32], s: SwapRoom, u: usize, v: usize) -> u32
+    requires { ⌜ Standing (now work) s × (u < s .level .vertices) × (v < s .level .vertices) ⌝ }
+    ensures { λ r. ⌜ (r ≤ 1) × ((g : ℕ) → Taken (now (work .entry)) (now (work .exit)) s r (proposal g u v ∷ [])) ⌝ }
+{
+    if applies(&work[..], s, u, v) {
+        swap(work, s, u, v);
+        return 1;
+    }
+    0
+}
+
+// The proposals of n slots are taken in their order: the number of swaps.
+fn take_all(work: &mut [u32], s: SwapRoom, list: &[u32], n: usize) -> u32
+    requires { ⌜ Standing (now work) s × (length (now list) ≡ 3 * n) × (n < 2 ^ 32) × All (Named (s .level .vertices)) (slots proposal n (now list)) ⌝ }
+    ensures { λ r. ⌜ (r ≤ n) × Taken (now (work .entry)) (now (work .exit)) s r (slots proposal n (now (list .entry))) ⌝ }
+{
+    let mut done: u32 = 0;
+    let mut j = 0;
+    while j < n {
+        if list[3 * j] == 0 {
+            return done;
+        }
+        done = done + try_swap(work, s, index(list[3 * j + 1]), index(list[3 * j + 2]));
+        j += 1;
+    }
+    done
 }
