@@ -12,3 +12,4 @@ pub mod GrowthLaws
 pub mod SwapListLaws
 pub mod SwapsSliceLaws
 pub mod SwapStepLaws
+pub mod ListingLaws

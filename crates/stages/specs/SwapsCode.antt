@@ -9,7 +9,7 @@ use lib.ListN.{length, take, set}
 use Rattle.links.specs.Lists.{at, insert, foldl, elem, range}
 use Rattle.links.specs.Parts.{part, Kept}
 use Rattle.links.specs.Graph.{linksIn, linksTo, load}
-use Rattle.stages.specs.Level.{neighborsAt, rowsAt, weightsAt, ownersAt, Ready, balanceIn}
+use Rattle.stages.specs.Level.{offsetsAt, neighborsAt, rowsAt, weightsAt, ownersAt, Ready, balanceIn}
 use Rattle.stages.specs.Moves.{Step, move, swap, after}
 use Rattle.stages.specs.Swaps.{Candidate, Proposal, ahead, sooner, propose, candidates, applies, swapPass, allProposals, refineFinePairSwaps}
 use Rattle.stages.specs.MovesCode.{Ranked, Clear, Loaded}
@@ -78,6 +78,18 @@ pub record Offering (w₀ w : List ℕ) (s : SwapRoom) (a v i e : ℕ) : Type 0 
   pub others : (c b : ℕ) → c < s .limits .ranks → b < s .limits .ranks → (c ≡ a → ⊥) → listAt w s c b ≡ listAt w₀ s c b
   pub each : (b : ℕ) → b < s .limits .ranks → (b ≡ a → ⊥) → Waiting w₀ w s a b v i e ⊎ Met w₀ w s a b v
 
+-- entry i of the neighbors had its turn
+pub record OfferedEntry (w w′ : List ℕ) (s : SwapRoom) (a v i : ℕ) : Type 0 where
+  pub kept : Kept (s .tallies) (length w) w′ w
+  pub turn
+      : (w₀ : List ℕ)
+      → Given w₀ s
+      → v < s .level .vertices
+      → a ≡ at (ownersAt w₀ (s .level)) v
+      → i < at (offsetsAt w₀ (s .level)) (v + 1)
+      → Offering w₀ w s a v i (at (offsetsAt w₀ (s .level)) (v + 1))
+      → Offering w₀ w′ s a v (i + 1) (at (offsetsAt w₀ (s .level)) (v + 1))
+
 -- v was listed
 pub record Listed (w w′ : List ℕ) (s : SwapRoom) (v : ℕ) : Type 0 where
   pub kept : Kept (s .tallies) (length w) w′ w
@@ -89,6 +101,10 @@ pub record Listed (w w′ : List ℕ) (s : SwapRoom) (v : ℕ) : Type 0 where
       → (a ≡ b → ⊥)
       → listAt w′ s a b ≡ offerVertex 8 (rowsAt w (s .level)) (ownersAt w (s .level)) a b (listAt w s a b) v
 
+-- no list holds a candidate
+abbrev pub Empty : List ℕ → SwapRoom → Type 0
+Empty w s = (a b : ℕ) → a < s .limits .ranks → b < s .limits .ranks → listAt w s a b ≡ []
+
 -- the lists are those of these owners
 abbrev pub Holding : List ℕ → SwapRoom → List ℕ → Type 0
 Holding w s owners =
@@ -97,6 +113,12 @@ Holding w s owners =
     → b < s .limits .ranks
     → (a ≡ b → ⊥)
     → listAt w s a b ≡ candidates 8 (rowsAt w (s .level)) owners a b
+
+-- all vertices were listed
+pub record ListedAll (w w′ : List ℕ) (s : SwapRoom) : Type 0 where
+  pub kept : Kept (s .tallies) (length w) w′ w
+  pub clear : Clear w′ (s .tallies) (s .limits .ranks)
+  pub holding : Holding w′ s (ownersAt w (s .level))
 
 -- ---- proposals
 

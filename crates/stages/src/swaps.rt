@@ -6,19 +6,23 @@ ghost use Prim.Native.Nat.{ℕ, _+_, _-_, _*_, _≤_, _<_, _^_};
 ghost use lib.ListN.{length, set};
 ghost use Rattle.links.specs.Lists.{at, All, foldl};
 ghost use Rattle.links.specs.Graph.{row, linksIn, linksTo};
-ghost use Rattle.stages.specs.Level.{rowsAt, weightsAt, ownersAt, balanceIn};
+ghost use Rattle.stages.specs.Level.{offsetsAt, neighborsAt, rowsAt, weightsAt, ownersAt, balanceIn};
 ghost use Rattle.stages.specs.Moves.{linked, gain, swap};
 ghost use Rattle.stages.specs.Swaps.{inBalance, applies};
 ghost use Rattle.stages.specs.Slots.{candidate, proposal, slots};
-ghost use Rattle.stages.specs.SwapsCode.{Given, Standing, Marked, candidateOf, Fair, Named, proposed, changed, traded, Tradable, Swapped, Taken};
+ghost use Rattle.stages.specs.MovesCode.{Clear, Tallied};
+ghost use Rattle.stages.specs.SwapsCode.{listPlace, Given, Offered, OfferedEntry, Offering, Listed, Empty, ListedAll, Standing, Marked, candidateOf, Fair, Named, proposed, changed, traded, Tradable, Swapped, Taken};
 use crate::level::HierarchyLevel;
 use crate::level::Limits;
+use crate::moves::owner_at;
 use crate::moves::owner_in;
 use crate::moves::row_start;
+use crate::moves::tally;
 use crate::moves::weight_in;
 use crate::slots::Member;
 use crate::slots::add;
 use crate::slots::member_at;
+use crate::slots::offer;
 use links::holds;
 use links::index;
 use links::wide;
@@ -56,6 +60,83 @@ fn linked(w: &[u32], s: SwapRoom, u: usize, v: usize) -> u32
         1
     } else {
         0
+    }
+}
+
+// ---- candidates
+
+// Where the list of ranks a and b begins.
+fn list_at(s: SwapRoom, a: usize, b: usize) -> usize
+    requires { ⌜ (a < s .limits .ranks) × (b < s .limits .ranks) × (s .lists + 24 * (s .limits .ranks * s .limits .ranks) < 2 ^ 64) ⌝ }
+    ensures { λ r. ⌜ (r ≡ listPlace s a b) × (r + 24 ≤ s .lists + 24 * (s .limits .ranks * s .limits .ranks)) ⌝ }
+{
+    s.lists + 24 * (a * s.limits.ranks + b)
+}
+
+// A candidate is offered to the list that begins at a.
+fn offer_part(work: &mut [u32], a: usize, there: u32, home: u32, v: u32)
+    requires { ⌜ (a + 24 ≤ length (now work)) × (0 < there) ⌝ }
+    ensures { λ _. ⌜ Offered (now (work .entry)) (now (work .exit)) a (candidate there home v) ⌝ }
+{
+    offer(&mut work[a..a + 24], 8, there, home, v);
+}
+
+// v, of rank a, is offered to the owner of the neighbor at entry i, once: its tally is then 0.
+fn offer_entry(work: &mut [u32], s: SwapRoom, a: usize, v: u32, i: usize)
+    requires { ⌜ Given (now work) s × (a < s .limits .ranks) × (i < s .level .entries) × (at (neighborsAt (now work) (s .level)) i < s .level .vertices) ⌝ }
+    ensures { λ _. ⌜ OfferedEntry (now (work .entry)) (now (work .exit)) s a v i ⌝ }
+{
+    let b = owner_at(&work[..], s.level, i);
+    if b == a {
+        return;
+    }
+    let tallies = s.tallies;
+    let there = work[tallies + b];
+    if there == 0 {
+        return;
+    }
+    let home = work[tallies + a];
+    work[tallies + b] = 0;
+    offer_part(work, list_at(s, a, b), there, home, v);
+}
+
+// v, of rank a, is offered to each other rank among its neighbors' owners.
+fn offer_row(work: &mut [u32], s: SwapRoom, a: usize, v: usize)
+    requires { ⌜ Given (now work) s × (v < s .level .vertices) × (a ≡ at (ownersAt (now work) (s .level)) v)
+        × Tallied (now work) (s .level) (s .tallies) (s .limits .ranks) v ⌝ }
+    ensures { λ _. ⌜ Offering (now (work .entry)) (now (work .exit)) s a v (at (offsetsAt (now (work .entry)) (s .level)) (v + 1))
+        (at (offsetsAt (now (work .entry)) (s .level)) (v + 1)) ⌝ }
+{
+    let end = row_start(&work[..], s.level, v + 1);
+    let mut i = row_start(&work[..], s.level, v);
+    while i < end {
+        offer_entry(work, s, a, v as u32, i);
+        i += 1;
+    }
+}
+
+// v is listed as a candidate. The tallies are 0 before and after.
+fn list_vertex(work: &mut [u32], s: SwapRoom, v: usize)
+    requires { ⌜ Given (now work) s × (v < s .level .vertices) × Clear (now work) (s .tallies) (s .limits .ranks) ⌝ }
+    ensures { λ _. ⌜ Listed (now (work .entry)) (now (work .exit)) s v ⌝ }
+{
+    let a = owner_in(&work[..], s.level, v);
+    tally(work, s.level, s.tallies, s.limits.ranks, v);
+    offer_row(work, s, a, v);
+    let tallies = s.tallies;
+    work[tallies + a] = 0;
+}
+
+// The candidates of all ordered rank pairs. The lists are empty before.
+fn list_all(work: &mut [u32], s: SwapRoom)
+    requires { ⌜ Given (now work) s × Clear (now work) (s .tallies) (s .limits .ranks) × Empty (now work) s ⌝ }
+    ensures { λ _. ⌜ ListedAll (now (work .entry)) (now (work .exit)) s ⌝ }
+{
+    let n = s.level.vertices;
+    let mut v = 0;
+    while v < n {
+        list_vertex(work, s, v);
+        v += 1;
     }
 }
 
