@@ -16,14 +16,14 @@ use Rattle.links.specs.Graph.{linksIn, linksTo}
 use Rattle.links.proofs.ListLaws.{split, tally}
 use Rattle.links.proofs.PartLaws.{part-putBack, kept-refl, kept-trans, kept-wide, kept-set, kept-putBack, kept-part-before, kept-part-after}
 use Rattle.stages.specs.Level.{offsetsAt, neighborsAt, rowsAt, ownersAt, Laid, Ready}
-use Rattle.stages.specs.Swaps.{Candidate, ahead}
+use Rattle.stages.specs.Swaps.{Candidate, ahead, candidates}
 use Rattle.stages.specs.Slots.{candidate, slots}
 use Rattle.stages.specs.MovesCode.{Clear, Tallied}
-use Rattle.stages.specs.SwapsCode.{listPlace, listAt, Given, offerVertex, Offered, Waiting, Met, Offering, OfferedEntry, Listed}
+use Rattle.stages.specs.SwapsCode.{listPlace, listAt, Given, offerVertex, Offered, Waiting, Met, Offering, OfferedEntry, Listed, Holding}
 use Rattle.stages.specs.declared.swaps.SwapRoom.{SwapRoom}
 use Rattle.stages.proofs.TallyLaws.{links-cons, links-none}
-use Rattle.stages.proofs.MovesSliceLaws.{neighbors-all, neighbors-kept, row-part, row-rises, row-ends, rows-kept, owners-kept}
-use Rattle.stages.proofs.SwapListLaws.{offer-other, offer-none, offer-some}
+use Rattle.stages.proofs.MovesSliceLaws.{neighbors-all, rows-all, neighbors-kept, row-part, row-rises, row-ends, rows-kept, owners-kept}
+use Rattle.stages.proofs.SwapListLaws.{offer-other, offer-none, offer-some, listedTo, listed-more, listed-all}
 use Rattle.stages.proofs.SwapStepLaws.{given-after}
 
 -- ---- the places of k × k lists
@@ -357,3 +357,36 @@ module _ {w : List ℕ} {s : SwapRoom} {a v i : ℕ} (c : ℕ) (ec : c ≡ at (o
         turn = λ w₀ g₀ h av l o.
             offering-new g₀ h av o l c (first-owner c i g₀ (o .kept) ec) f cr (at w (s .tallies + c)) (at w (s .tallies + a)) refl nz refl w₁ w₂ refl d′;
       }
+
+-- one more vertex, and all of them
+module _ {w₀ w : List ℕ} {s : SwapRoom} (g : Given w₀ s) (k : Kept (s .tallies) (length w₀) w w₀) where
+  used-below : s .used ≤ s .tallies
+  used-below = omega (arith, g .used-in, g .loads-in)
+
+  pub given-listed : Given w s
+  given-listed = given-kept g k used-below
+
+  pub listed-turn
+      : (v : ℕ) (w′ : List ℕ)
+      → Listed w w′ s v
+      → ((a b : ℕ) → a < s .limits .ranks → b < s .limits .ranks → (a ≡ b → ⊥)
+        → listAt w s a b ≡ listedTo 8 (rowsAt w₀ (s .level)) (ownersAt w₀ (s .level)) a b v)
+      → (a b : ℕ)
+      → a < s .limits .ranks
+      → b < s .limits .ranks
+      → (a ≡ b → ⊥)
+      → listAt w′ s a b ≡ listedTo 8 (rowsAt w₀ (s .level)) (ownersAt w₀ (s .level)) a b (v + 1)
+  listed-turn v w′ d f a b p q n =
+      d .lists a b p q n
+      ∙ rw (rows-same g k used-below, owners-same g k used-below, f a b p q n)
+        (sym (listed-more 8 (rowsAt w₀ (s .level)) (ownersAt w₀ (s .level)) a b v))
+
+  pub listed-end
+      : ((a b : ℕ) → a < s .limits .ranks → b < s .limits .ranks → (a ≡ b → ⊥)
+        → listAt w s a b ≡ listedTo 8 (rowsAt w₀ (s .level)) (ownersAt w₀ (s .level)) a b (s .level .vertices))
+      → Holding w s (ownersAt w₀ (s .level))
+  listed-end f a b p q n =
+      f a b p q n
+      ∙ ap (listedTo 8 (rowsAt w₀ (s .level)) (ownersAt w₀ (s .level)) a b) (sym (rows-all (g .ready)))
+      ∙ listed-all 8 (rowsAt w₀ (s .level)) (ownersAt w₀ (s .level)) a b
+      ∙ ap (λ (z : List (List ℕ)). candidates 8 z (ownersAt w₀ (s .level)) a b) (sym (rows-same g k used-below))

@@ -16,6 +16,7 @@ use Rattle.links.proofs.ListLaws.{split}
 use Rattle.stages.specs.Level.{offsetsAt, neighborsAt, rowsAt, weightsAt, ownersAt, Laid, Ready, balanceIn}
 use Rattle.stages.specs.Moves.{swap, gain}
 use Rattle.stages.specs.Swaps.{inBalance, applies}
+use Rattle.stages.specs.MovesCode.{Roomed}
 use Rattle.stages.specs.SwapsCode.{Given, Standing, Marked}
 use Rattle.stages.specs.declared.swaps.SwapRoom.{SwapRoom}
 use Rattle.stages.proofs.MovesSliceLaws.{ready-by, owner-place, vertices-all, neighbors-all, owners-all, rows-all, row-part, row-rises, row-ends, entry-below}
@@ -30,6 +31,10 @@ module _ {w : List ℕ} {s : SwapRoom} (g : Given w s) where
   -- the level, with all of the slice
   pub whole : Ready w (s .level) (length w)
   whole = ready-by (length w) (g .ready) (g .ready .inside) (omega arith)
+
+  -- room for a number for each rank
+  pub roomed : (a : ℕ) → s .used ≤ a → a + s .limits .ranks ≤ length w → Roomed w (s .level) a (s .limits .ranks)
+  roomed a h k = record { ready = ready-by a (g .ready) h (omega arith); room = k; ranked = g .ranked }
 
   pub vertices-are : length (rowsAt w (s .level)) ≡ s .level .vertices
   vertices-are = rows-all (g .ready)
