@@ -1,3 +1,4 @@
 pub mod Causes
 pub mod Division
 pub mod Demand3
+pub mod Sites

@@ -6,6 +6,8 @@ pub mod MovesLaws
 pub mod MovesSliceLaws
 pub mod TallySliceLaws
 pub mod LoadSliceLaws
+pub mod MovesTurnLaws
+pub mod MovesPassLaws
 pub mod CutLaws
 pub mod StepLaws
 pub mod GrowthLaws
@@ -13,3 +15,5 @@ pub mod SwapListLaws
 pub mod SwapsSliceLaws
 pub mod SwapStepLaws
 pub mod ListingLaws
+pub mod LoadLaws
+pub mod GroupingLaws

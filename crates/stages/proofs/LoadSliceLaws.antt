@@ -1,15 +1,15 @@
 -- The loads of the ranks in the work slice: adding them up, and what a vertex that changes its rank does to them. Assumes nothing.
-use Prim.Native.Nat.{ℕ, zero, suc, _+_, _-_, _≤_, _<_, _^_}
-use mathlib.Core.Path.{_≡_, refl, sym, ap, _∙_}
-use mathlib.Core.Bool.{Bool, true, false, cond}
+use Prim.Native.Nat.{ℕ, _+_, _-_, _≤_, _<_, _^_}
+use mathlib.Core.Path.{_≡_, refl, ap, _∙_}
+use mathlib.Core.Bool.{cond}
 use mathlib.Core.List.{List}
 use native.Mathlib.Omega.{arith}
 use lib.ListN.{length, set, drop, replicate, length-replicate, getD-replicate}
 use lib.Seq.{getD-set-same, getD-set-other}
 use lib.Dec.{eqb}
 use borrow.Author.Tests.{eq-eqb, eqb-true, eqb-false}
-use Rattle.links.specs.Lists.{at, sum}
-use Rattle.links.specs.Parts.{part, putBack, Kept}
+use Rattle.links.specs.Lists.{at}
+use Rattle.links.specs.Parts.{putBack, Kept}
 use Rattle.links.specs.Graph.{load}
 use Rattle.links.proofs.ListLaws.{split}
 use Rattle.links.proofs.PartLaws.{kept-set, kept-refl, kept-putBack, getD-putBack-in}
@@ -23,12 +23,13 @@ use Rattle.stages.proofs.MovesSliceLaws.{weights-all, owners-all, weigh
 pub cleared : (w w′ : List ℕ) (a n : ℕ) → a + n ≤ length w → w′ ≡ putBack w a (a + n) (replicate (a + n - a) 0) → Clear w′ a n × Kept a (a + n) w′ w
 cleared w w′ a n h e =
     let zs : List ℕ = replicate (a + n - a) 0 in
-    let l : length zs ≡ a + n - a = length-replicate (a + n - a) 0 in
-    (λ i m.
-    ap (λ (x : List ℕ). at x (a + i)) e
-    ∙ getD-putBack-in w a (a + n) zs (omega arith) h l i (omega arith)
-    ∙ getD-replicate (a + n - a) i 0 0 (omega arith),
-    rw e (kept-putBack w a (a + n) zs (omega arith) h l))
+    let l : length zs ≡ a + n - a = length-replicate (a + n - a) 0 in (
+      λ i m.
+          ap (λ (x : List ℕ). at x (a + i)) e
+          ∙ getD-putBack-in w a (a + n) zs (omega arith) h l i (omega arith)
+          ∙ getD-replicate (a + n - a) i 0 0 (omega arith),
+      rw e (kept-putBack w a (a + n) zs (omega arith) h l),
+    )
 
 -- added up as far as vertex v: with what is left, the loads
 pub record WeighTo (w₀ w : List ℕ) (l : HierarchyLevel) (loads ranks v : ℕ) : Type 0 where
@@ -87,7 +88,8 @@ module _ {w₀ : List ℕ} {l : HierarchyLevel} {loads ranks : ℕ} (t : Roomed 
       }
 
   pub weigh-end : {w : List ℕ} → WeighTo w₀ w l loads ranks (l .vertices) → Loaded w l loads ranks × Kept loads (loads + ranks) w w₀
-  weigh-end {w} d =
-      (λ r h. rw (weights-kept (t .ready) (d .kept) below, owners-kept (t .ready) (d .kept) (omega arith))
-      (omega (arith, d .sums r h, load-end ws os r (l .vertices) (omega (arith, weights-all (t .ready))))),
-      d .kept)
+  weigh-end {w} d = (
+    λ r h. rw (weights-kept (t .ready) (d .kept) below, owners-kept (t .ready) (d .kept) (omega arith))
+        (omega (arith, d .sums r h, load-end ws os r (l .vertices) (omega (arith, weights-all (t .ready))))),
+    d .kept,
+  )

@@ -1,7 +1,7 @@
 -- Laws of rule 6's passes: what is left of a pass at a vertex, and of the passes at a pass. Assumes nothing.
-use Prim.Native.Nat.{ℕ, zero, suc, _+_, _-_, _≤_, _<_}
-use mathlib.Core.Path.{_≡_, refl, sym, ap, _∙_}
-use mathlib.Core.Bool.{Bool, true, false, cond}
+use Prim.Native.Nat.{ℕ, suc, _+_, _-_, _≤_, _<_}
+use mathlib.Core.Path.{_≡_, refl, sym, _∙_}
+use mathlib.Core.Bool.{true, cond}
 use mathlib.Core.List.{List, [], _∷_, _++_}
 use mathlib.Core.Option.{Option, none, some}
 use native.Mathlib.Omega.{arith}
@@ -9,9 +9,8 @@ use native.Mathlib.Numerals.{add-one}
 use lib.ListN.{length, set, length-append}
 use Rattle.links.specs.Lists.{at, foldl, range, empty, option}
 use Rattle.links.specs.Loads.{Balance}
-use Rattle.links.specs.Graph.{vertices}
 use Rattle.stages.proofs.StepLaws.{foldl-append}
-use Rattle.stages.specs.Moves.{Step, move, after, Steps, repeat, destination, movePass, refineByCut}
+use Rattle.stages.specs.Moves.{Step, move, after, Steps, repeat, destination, movePass}
 
 -- what is done is a number of steps and the owners they left; what is left, from there on, is a list of steps: the same end
 pub record Toward (owners₀ : List ℕ) (all : List Step) (owners : List ℕ) (done : ℕ) (left : List Step) : Type 0 where
@@ -21,39 +20,54 @@ pub record Toward (owners₀ : List ℕ) (all : List Step) (owners : List ℕ) (
 pub toward-start : (owners : List ℕ) (all : List Step) → Toward owners all owners 0 all
 toward-start owners all = record { count = omega arith; end = refl }
 
+-- some steps more
+pub toward-next
+    : (owners₀ : List ℕ) (all : List Step) (owners : List ℕ) (done : ℕ) (now rest : List Step)
+    → Toward owners₀ all owners done (now ++ rest)
+    → Toward owners₀ all (foldl after owners now) (done + length now) rest
+toward-next owners₀ all owners done now rest t =
+    record { count = omega (arith, t .count, length-append now rest); end = sym (foldl-append after now rest owners) ∙ t .end }
+
 module _ (b : Balance) (rows : List (List ℕ)) (weights : List ℕ) where
-  -- what v's turn leaves, and what it counts
-  abbrev pub ownersAfter : List ℕ → ℕ → List ℕ
-  ownersAfter owners v = option (destination b rows weights owners v) owners (set owners v)
+  -- a vertex's turn, and the rest of the pass
+  pass-split
+      : (owners : List ℕ) (v : ℕ) (vs : List ℕ)
+      → movePass b rows weights (v ∷ vs) owners
+      ≡ movePass b rows weights (v ∷ []) owners ++ movePass b rows weights vs (foldl after owners (movePass b rows weights (v ∷ []) owners))
+  unfolding movePass after
+  pass-split owners v vs = go (destination b rows weights owners v)
+    where
+      go
+          : (d : Option ℕ)
+          → option d (movePass b rows weights vs owners) (λ r. move v r ∷ movePass b rows weights vs (set owners v r))
+          ≡ option d [] (λ r. move v r ∷ []) ++ movePass b rows weights vs (foldl after owners (option d [] (λ r. move v r ∷ [])))
+      go none = refl
+      go (some r) = refl
 
-  abbrev pub movesOf : List ℕ → ℕ → ℕ
-  movesOf owners v = option (destination b rows weights owners v) 0 (λ r. 1)
+  pub one-few : (v : ℕ) (owners : List ℕ) → length (movePass b rows weights (v ∷ []) owners) ≤ 1
+  unfolding movePass
+  one-few v owners = go (destination b rows weights owners v)
+    where
+      go : (d : Option ℕ) → length (option d [] (λ r. move v r ∷ [])) ≤ 1
+      go none = omega arith
+      go (some r) = omega arith
 
-  -- the rest of a pass
+  -- what is left of a pass at v
   abbrev pub passLeft : ℕ → ℕ → List ℕ → List Step
   passLeft n v owners = movePass b rows weights (range v (n - v)) owners
 
-  -- a turn
   pub pass-turn
-      : (owners₀ : List ℕ) (all : List Step) (n v : ℕ) (owners : List ℕ) (done : ℕ)
+      : (owners₀ : List ℕ) (all : List Step) (n v : ℕ) (owners owners′ : List ℕ) (done : ℕ)
       → v < n
+      → owners′ ≡ foldl after owners (movePass b rows weights (v ∷ []) owners)
       → Toward owners₀ all owners done (passLeft n v owners)
-      → Toward owners₀ all (ownersAfter owners v) (done + movesOf owners v) (passLeft n (v + 1) (ownersAfter owners v))
-  unfolding movePass after
-  pass-turn owners₀ all n v owners done h t =
+      → Toward owners₀ all owners′ (done + length (movePass b rows weights (v ∷ []) owners)) (passLeft n (v + 1) owners′)
+  pass-turn owners₀ all n v owners owners′ done h f t =
       let e : n - v ≡ suc (n - (v + 1)) = omega arith in
-      let u : Toward owners₀ all owners done (movePass b rows weights (range v (suc (n - (v + 1)))) owners) = rw e at t in
-      rw add-one (go (destination b rows weights owners v) (rw add-one at u))
-    where
-      rest : List ℕ → List Step
-      rest o = movePass b rows weights (range (suc v) (n - suc v)) o
-
-      go
-          : (d : Option ℕ)
-          → Toward owners₀ all owners done (option d (rest owners) (λ r. move v r ∷ rest (set owners v r)))
-          → Toward owners₀ all (option d owners (set owners v)) (done + option d 0 (λ r. 1)) (rest (option d owners (set owners v)))
-      go none x = record { count = omega (arith, x .count); end = x .end }
-      go (some r) x = record { count = omega (arith, x .count); end = x .end }
+      let ss = movePass b rows weights (v ∷ []) owners in
+      let u : Toward owners₀ all owners done (movePass b rows weights (v ∷ range (v + 1) (n - (v + 1))) owners) = rw (add-one v) (rw (e, add-one v) at t) in
+      rw f (toward-next owners₀ all owners done ss (movePass b rows weights (range (v + 1) (n - (v + 1))) (foldl after owners ss))
+      (rw (pass-split owners v (range (v + 1) (n - (v + 1)))) at u))
 
   pub pass-end : (n v : ℕ) (owners : List ℕ) → n ≤ v → passLeft n v owners ≡ []
   unfolding movePass
@@ -91,12 +105,7 @@ module _ (pass : List ℕ → List Step) where
           → (length ss ≡ 0 → ⊥)
           → Toward owners₀ all (foldl after owners ss) (done + length ss) (repeat (passes - (p + 1)) pass (foldl after owners ss) .steps)
       go [] x n = absurd (n refl)
-      go (s ∷ ss) x n =
-          let r = repeat (passes - (p + 1)) pass (foldl after owners (s ∷ ss)) .steps in
-          record {
-            count = omega (arith, x .count, length-append (s ∷ ss) r);
-            end = sym (foldl-append after (s ∷ ss) r owners) ∙ x .end;
-          }
+      go (s ∷ ss) x n = toward-next owners₀ all owners done (s ∷ ss) (repeat (passes - (p + 1)) pass (foldl after owners (s ∷ ss)) .steps) x
 
   -- a pass without a step is the last
   pub repeat-quiet

@@ -1,15 +1,15 @@
 -- A level in the work slice, read by position, and what is kept of it. Assumes nothing.
-use Prim.Native.Nat.{ℕ, zero, suc, _+_, _-_, _≤_, _<_, _^_}
-use mathlib.Core.Path.{_≡_, refl, sym, ap, _∙_}
+use Prim.Native.Nat.{ℕ, _+_, _-_, _≤_, _<_}
+use mathlib.Core.Path.{_≡_, ap, _∙_}
 use mathlib.Core.List.{List}
 use native.Mathlib.Omega.{arith}
 use lib.ListN.{length}
-use Rattle.links.specs.Lists.{at, sum}
+use Rattle.links.specs.Lists.{at}
 use Rattle.links.specs.Parts.{part, Kept}
-use Rattle.links.specs.Graph.{row, rowsOf, vertexCount, SoundLists}
+use Rattle.links.specs.Graph.{row, vertexCount}
 use Rattle.links.proofs.PartLaws.{length-part, getD-part, kept-part-before}
 use Rattle.links.proofs.RowLaws.{length-rows, row-is, length-row, row-at, row-below, offsets-fit, offsets-rise}
-use Rattle.stages.specs.Level.{offsetsAt, neighborsAt, rowsAt, weightsAt, ownersAt, Laid, Ready}
+use Rattle.stages.specs.Level.{offsetsAt, neighborsAt, rowsAt, weightsAt, ownersAt, Ready}
 use Rattle.stages.specs.declared.level.HierarchyLevel.{HierarchyLevel}
 
 module _ {w : List ℕ} {l : HierarchyLevel} {end : ℕ} (q : Ready w l end) where

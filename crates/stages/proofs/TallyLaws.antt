@@ -1,19 +1,17 @@
 -- Laws of tallies: a vertex's neighbors counted by their owners, entry by entry. Assumes nothing.
-use Prim.Native.Nat.{ℕ, zero, suc, _+_, _-_, _≤_, _<_}
-use mathlib.Core.Path.{_≡_, refl, sym, ap, _∙_}
-use mathlib.Core.Bool.{Bool, true, false, cond, false≢true, true≢false}
+use Prim.Native.Nat.{ℕ, suc, _+_, _-_, _≤_, _<_}
+use mathlib.Core.Path.{_≡_, ap, _∙_}
+use mathlib.Core.Bool.{Bool, true}
 use mathlib.Core.List.{List, [], _∷_, _++_, map}
 use native.Mathlib.Omega.{arith}
 use native.Mathlib.Numerals.{add-one}
-use lib.ListN.{length, getD, take, drop, length-drop}
-use lib.Seq.{drop-cons, take-suc, drop-drop, getD-drop}
+use lib.ListN.{length, drop, length-drop}
+use lib.Seq.{drop-cons, take-suc, getD-drop}
 use lib.Dec.{eqb}
-use borrow.Author.Tests.{eq-eqb, ne-eqb, eqb-true, eqb-false}
-use Rattle.links.specs.Lists.{at, any, elem}
+use Rattle.links.specs.Lists.{at, elem}
 use Rattle.links.specs.Parts.{part}
 use Rattle.links.specs.Graph.{linksIn}
-use Rattle.links.proofs.ListLaws.{split, eqb-sym, tally, count, count-cons, count-length, count-append, any-counts, elem-map}
-use Rattle.links.proofs.PartLaws.{length-part}
+use Rattle.links.proofs.ListLaws.{split, eqb-sym, tally, count, count-cons, count-length, count-append}
 
 -- one more entry at the end of a part
 pub part-snoc : (xs : List ℕ) (a i : ℕ) → a ≤ i → i < length xs → part xs a (i + 1) ≡ part xs a i ++ (at xs i ∷ [])

@@ -1,23 +1,23 @@
 -- The tallies of a vertex in the work slice: what a turn of the loops over its row does. Assumes nothing.
-use Prim.Native.Nat.{ℕ, zero, suc, _+_, _-_, _≤_, _<_, _^_}
-use mathlib.Core.Path.{_≡_, refl, sym, ap, _∙_}
-use mathlib.Core.Bool.{Bool, true, false, cond}
+use Prim.Native.Nat.{ℕ, _+_, _-_, _≤_, _<_, _^_}
+use mathlib.Core.Path.{_≡_, sym, ap, _∙_}
+use mathlib.Core.Bool.{true, false}
 use mathlib.Core.List.{List}
 use native.Mathlib.Omega.{arith}
 use lib.ListN.{length, set}
 use lib.Seq.{getD-set-same, getD-set-other}
 use lib.Dec.{eqb}
-use borrow.Author.Tests.{eq-eqb, eqb-true, eqb-false}
+use borrow.Author.Tests.{eqb-true, eqb-false}
 use Rattle.links.specs.Lists.{at}
 use Rattle.links.specs.Parts.{part, Kept}
-use Rattle.links.specs.Graph.{row, linksIn, linksTo}
-use Rattle.links.proofs.ListLaws.{split, eqb-sym, tally}
+use Rattle.links.specs.Graph.{row, linksIn}
+use Rattle.links.proofs.ListLaws.{split, tally}
 use Rattle.links.proofs.PartLaws.{length-part, kept-set, kept-refl}
-use Rattle.stages.specs.Level.{offsetsAt, neighborsAt, rowsAt, ownersAt, Ready}
+use Rattle.stages.specs.Level.{offsetsAt, neighborsAt, ownersAt, Ready}
 use Rattle.stages.specs.declared.level.HierarchyLevel.{HierarchyLevel}
 use Rattle.stages.specs.MovesCode.{Clear, Roomed, Tallied}
 use Rattle.stages.proofs.TallyLaws.{links-snoc, links-cons, links-none, links-few}
-use Rattle.stages.proofs.MovesSliceLaws.{offsets-all, neighbors-all, rows-all, row-part, row-rises, row-ends, entry-below, rows-kept, neighbors-kept, owners-kept, ready-kept, ready-by}
+use Rattle.stages.proofs.MovesSliceLaws.{neighbors-all, row-part, row-rises, row-ends, entry-below, rows-kept, neighbors-kept, owners-kept, ready-kept, ready-by}
 
 -- tallied as far as entry i; to be cleared from entry i on
 pub record TallyTo (w₀ w : List ℕ) (l : HierarchyLevel) (tallies ranks v i : ℕ) : Type 0 where
@@ -51,10 +51,11 @@ module _ {w₀ : List ℕ} {l : HierarchyLevel} {tallies ranks v : ℕ} (t : Roo
   module _ {w : List ℕ} (k : Kept tallies (tallies + ranks) w w₀) (i : ℕ) (a : from ≤ i) (b : i < to) where
     pub owner-asks : Ready w l (length w) × (i < l .entries) × (at (neighborsAt w l) i < l .vertices)
     owner-asks =
-        let below : l .owners ≤ tallies = omega (arith, t .ready .laid) in
-        (ready-by (length w) (ready-kept (t .ready) k below) (omega (arith, t .room, k .same-length)) (omega arith),
-        omega (arith, ends),
-        rw (neighbors-kept (t .ready) k below) (entry-below (t .ready) v vertex i a b))
+        let below : l .owners ≤ tallies = omega (arith, t .ready .laid) in (
+          ready-by (length w) (ready-kept (t .ready) k below) (omega (arith, t .room, k .same-length)) (omega arith),
+          omega (arith, ends),
+          rw (neighbors-kept (t .ready) k below) (entry-below (t .ready) v vertex i a b),
+        )
 
     pub owner-is : (r : ℕ) → r ≡ at (ownersAt w l) (at (neighborsAt w l) i) → r ≡ owner i
     owner-is r e =
@@ -103,12 +104,13 @@ module _ {w₀ : List ℕ} {l : HierarchyLevel} {tallies ranks v : ℕ} (t : Roo
 
   pub tally-end : {w : List ℕ} → TallyTo w₀ w l tallies ranks v to → Tallied w l tallies ranks v × Kept tallies (tallies + ranks) w w₀
   tally-end {w} d =
-      let below : l .owners ≤ tallies = omega (arith, t .ready .laid) in
-      (λ r h.
-      d .counts r h
-      ∙ ap (λ (us : List ℕ). linksIn us (ownersAt w₀ l) r) (sym (row-part (t .ready) v vertex))
-      ∙ rw (rows-kept (t .ready) (d .kept) below, owners-kept (t .ready) (d .kept) (omega arith)),
-      d .kept)
+      let below : l .owners ≤ tallies = omega (arith, t .ready .laid) in (
+        λ r h.
+            d .counts r h
+            ∙ ap (λ (us : List ℕ). linksIn us (ownersAt w₀ l) r) (sym (row-part (t .ready) v vertex))
+            ∙ rw (rows-kept (t .ready) (d .kept) below, owners-kept (t .ready) (d .kept) (omega arith)),
+        d .kept,
+      )
 
   -- ---- clearing
 

@@ -1,16 +1,15 @@
 -- What the target of rule 6 is, and that it is found among the owners of a vertex's neighbors, in whatever order they are met: it passes the test
 -- and beats every other that passes; there is at most one such. Assumes nothing.
-use Prim.Native.Nat.{ℕ, zero, suc, _+_, _-_, _≤_, _<_}
+use Prim.Native.Nat.{ℕ, zero, suc, _+_, _-_, _<_}
 use mathlib.Core.Path.{_≡_, refl, sym, ap, _∙_, subst}
 use mathlib.Core.Logic.{_⊎_, inl, inr, ⊎-elim}
 use mathlib.Core.Bool.{Bool, true, false, _&&_, _||_, cond, true≢false, false≢true}
 use mathlib.Core.List.{List, [], _∷_, map}
 use mathlib.Core.Option.{Option, none, some}
 use native.Mathlib.Omega.{arith}
-use lib.ListN.{length}
 use lib.Dec.{leb, ltb, eqb}
-use borrow.Author.Tests.{eq-eqb, ne-eqb, eqb-true, eqb-false, ltb-true, ltb-false, lt-ltb, le-ltb}
-use Rattle.links.specs.Lists.{at, All, above, filter, foldl, best, bestFrom, range, elem}
+use borrow.Author.Tests.{eq-eqb, ne-eqb, eqb-true, eqb-false, ltb-true, ltb-false, le-ltb}
+use Rattle.links.specs.Lists.{at, All, above, filter, foldl, best, range, elem}
 use Rattle.links.specs.Loads.{Balance}
 use Rattle.links.specs.Graph.{row, linksTo, load}
 use Rattle.links.proofs.ListLaws.{split, and-l, and-r, all-in, all-map}
@@ -327,3 +326,8 @@ module _ (b : Balance) (rows : List (List ℕ)) (weights owners : List ℕ) (v :
       (λ s e p. (all-in (λ r. r < b .ranks) rs s (all-map (λ r. r < b .ranks) (at owners) (row rows v) a) e, p))
       (λ s q. inr (has-neighbor s (q .1), q .1))))
       (top-best g passing (preferred b rows weights owners v) agrees (b .ranks))
+
+  -- a target is a rank
+  pub target-rank : (r : ℕ) → target b rows weights owners v ≡ some r → r < b .ranks
+  unfolding target
+  target-rank r e = top-best (λ s. offerAt s .gain) passing (preferred b rows weights owners v) agrees (b .ranks) .passes r e .0

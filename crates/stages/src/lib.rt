@@ -7,3 +7,4 @@ mod moves;
 pub use level::HierarchyLevel;
 pub use level::Limits;
 pub use moves::Refined;
+pub use moves::refine_by_cut;

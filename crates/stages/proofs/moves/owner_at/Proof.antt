@@ -1,38 +1,28 @@
-use mathlib.Core.Path.{_≡_, sym, ap, _∙_}
+use mathlib.Core.Path.{sym, ap, _∙_}
 use Rattle.links.specs.Lists.{at}
 use Rattle.stages.specs.Level.{ownersAt}
 use Rattle.stages.proofs.MovesSliceLaws.{neighbor-place}
 use borrow.Author.Needs.{needs}
 use Rattle.stages.proofs.moves.owner_at.Statement.{statement}
 use Rattle.stages.proofs.moves.owner_at.Tie as tie
-use Rattle.stages.proofs.moves.owner_at.Reads as reads
-use Rattle.stages.proofs.moves.owner_at.Lts as lts
-use Rattle.links.proofs.index.Reads as index-reads
-use Rattle.stages.proofs.moves.owner_in.Reads as owner-in-reads
 
--- src/moves.rt:60:34
 add-index : tie.Need-add-index
 add-index c = search needs
 
--- src/moves.rt:60:29
 mul-index : tie.Need-mul-index
 mul-index c = search needs
 
--- src/moves.rt:60:29
 shared-slice-read-index : tie.Need-shared-slice-read-index
 shared-slice-read-index c = search needs
 
--- src/moves.rt:60:23
 index-requires : tie.Need-index-requires
 index-requires c κs = search needs
 
--- src/moves.rt:60:5
 owner-in-requires : tie.Need-owner-in-requires
 owner-in-requires c κs =
     let s = c .before .before .before in
     (s .pre .0, rw (c .index .ensures ∙ sym (neighbor-place (s .pre .0) (s .args .i) (s .pre .1))) (s .pre .2))
 
--- src/moves.rt:55:1
 returns : tie.Need-returns
 returns c =
     let s = c .before .before .before .before in

@@ -1,29 +1,21 @@
-use mathlib.Core.Path.{_≡_, sym, ap, _∙_}
+use mathlib.Core.Path.{sym, _∙_}
 use Rattle.stages.proofs.MovesSliceLaws.{offset-place}
 use borrow.Author.Needs.{needs}
 use Rattle.stages.proofs.moves.row_start.Statement.{statement}
 use Rattle.stages.proofs.moves.row_start.Tie as tie
-use Rattle.stages.proofs.moves.row_start.Reads as reads
-use Rattle.stages.proofs.moves.row_start.Lts as lts
-use Rattle.links.proofs.index.Reads as index-reads
 
--- src/moves.rt:32:16
 add-index : tie.Need-add-index
 add-index c = search needs
 
--- src/moves.rt:32:11
 mul-index : tie.Need-mul-index
 mul-index c = search needs
 
--- src/moves.rt:32:11
 shared-slice-read-index : tie.Need-shared-slice-read-index
 shared-slice-read-index c = search needs
 
--- src/moves.rt:32:5
 index-requires : tie.Need-index-requires
 index-requires c κs = search needs
 
--- src/moves.rt:27:1
 returns : tie.Need-returns
 returns c =
     let s = c .before .before .before in

@@ -1,18 +1,12 @@
-use Prim.Native.Nat.{ℕ, _+_, _-_, _≤_, _<_}
-use mathlib.Core.Path.{_≡_, refl, sym, ap, _∙_}
+use Prim.Native.Nat.{_+_, _-_, _≤_, _<_}
+use mathlib.Core.Path.{_≡_}
 use native.Mathlib.Omega.{arith}
-use lib.ListN.{length}
 use Rattle.links.specs.Lists.{at}
-use Rattle.stages.specs.Level.{offsetsAt, neighborsAt, ownersAt}
-use Rattle.stages.proofs.TallySliceLaws.{TallyTo, ClearFrom, whole, rises, ends, owner-asks, owner-in, tally-start, tally-fits, tally-turn, tally-end, clear-start, clear-turn, clear-end}
+use Rattle.stages.specs.Level.{offsetsAt}
+use Rattle.stages.proofs.TallySliceLaws.{ClearFrom, whole, rises, owner-asks, owner-in, clear-start, clear-turn, clear-end}
 use borrow.Author.Needs.{needs}
 use Rattle.stages.proofs.moves.untally.Statement.{statement}
 use Rattle.stages.proofs.moves.untally.Tie as tie
-use Rattle.stages.proofs.moves.untally.Reads as reads
-use Rattle.stages.proofs.moves.untally.Lts as lts
-use Rattle.links.proofs.store_part.Reads as store-part-reads
-use Rattle.stages.proofs.moves.owner_at.Reads as owner-at-reads
-use Rattle.stages.proofs.moves.row_start.Reads as row-start-reads
 
 abbrev Inv-loop : tie.InvT-loop
 Inv-loop work₀ l tallies ranks v end i₀ work i =
@@ -28,20 +22,15 @@ within c =
     let l = c .before .before .before .loop in
     owner-in (s .pre .0) (s .pre .1) (l .inv .3 .kept) (l .i) (l .inv .0) (omega (arith, c .before .before .loop-test .taken, l .inv .2)) (c .owner-at .result) (c .owner-at .ensures)
 
-
--- src/moves.rt:66:39
 add-row-start : tie.Need-add-row-start Inv-loop μ-loop
 add-row-start c = search needs
 
--- src/moves.rt:66:9
 row-start-requires : tie.Need-row-start-requires Inv-loop μ-loop
 row-start-requires c κs = let s = c .before .before in (whole (s .pre .0) (s .pre .1), omega (arith, s .pre .1))
 
--- src/moves.rt:67:9
 row-start-requires-2 : tie.Need-row-start-requires-2 Inv-loop μ-loop
 row-start-requires-2 c κs = let s = c .before .before .before .before in (whole (s .pre .0) (s .pre .1), omega (arith, s .pre .1))
 
--- src/moves.rt:68:5
 loop-holds : tie.Need-loop-holds Inv-loop μ-loop
 loop-holds c =
     let s = c .before .before .before .before .before in
@@ -49,30 +38,24 @@ loop-holds c =
     let f : c .before .before .row-start .result ≡ at (offsetsAt (s .args .work .now) (s .args .l)) (s .args .v + 1) = c .before .before .row-start .ensures in
     (omega arith, omega (arith, rises (s .pre .0) (s .pre .1)), f, rw e (clear-start (s .pre .0) (s .pre .1) (s .pre .2)))
 
--- src/moves.rt:69:13
 owner-at-requires : tie.Need-owner-at-requires Inv-loop μ-loop
 owner-at-requires c κs =
     let s = c .before .before .before .before .before .before .before .before in
     let l = c .before .before .loop in
     owner-asks (s .pre .0) (s .pre .1) (l .inv .3 .kept) (l .i) (l .inv .0) (omega (arith, c .before .loop-test .taken, l .inv .2))
 
--- src/moves.rt:70:35
 add-store-part : tie.Need-add-store-part Inv-loop μ-loop
 add-store-part c = search needs
 
--- src/moves.rt:70:9
 store-part-requires : tie.Need-store-part-requires Inv-loop μ-loop
 store-part-requires c κs = let h = within (c .before) in (omega arith, omega (arith, c .before .before .before .before .before .before .before .before .before .before .pre .0 .room, c .before .before .before .before .loop .inv .3 .kept .same-length), omega arith)
 
--- src/moves.rt:71:9
 add-i : tie.Need-add-i Inv-loop μ-loop
 add-i c = search needs
 
--- src/moves.rt:68:5
 loop-less : tie.Need-loop-less Inv-loop μ-loop
 loop-less c = search needs
 
--- src/moves.rt:68:5
 loop-again : tie.Need-loop-again Inv-loop μ-loop
 loop-again c =
     let s = c .before .before .before .before .before .before .before .before .before .before .before .before .before in
@@ -80,11 +63,9 @@ loop-again c =
     let b : l .i < at (offsetsAt (s .args .work .now) (s .args .l)) (s .args .v + 1) = omega (arith, c .before .before .before .before .before .before .loop-test .taken, l .inv .2) in
     (omega (arith, l .inv .0), omega (arith, c .before .before .before .before .before .before .loop-test .taken), l .inv .2, clear-turn (s .pre .0) (s .pre .1) (l .inv .3) (l .inv .0) b (c .before .before .before .before .owner-at .result) (c .before .before .before .before .owner-at .ensures) _ (c .before .before .store-part .ensures))
 
--- src/moves.rt:62:1
 same-length : tie.Need-same-length Inv-loop μ-loop
 same-length c = search needs
 
--- src/moves.rt:62:1
 returns : tie.Need-returns Inv-loop μ-loop
 returns c =
     let s = c .before .before .before .before .before .before .before in

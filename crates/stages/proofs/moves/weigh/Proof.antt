@@ -1,16 +1,11 @@
-use Prim.Native.Nat.{ℕ, _+_, _-_, _≤_, _<_}
-use mathlib.Core.Path.{_≡_, refl, sym, ap, _∙_}
+use Prim.Native.Nat.{_+_, _-_, _≤_, _<_}
+use mathlib.Core.Path.{_≡_, refl}
 use native.Mathlib.Omega.{arith}
 use lib.ListN.{length}
 use Rattle.stages.proofs.LoadSliceLaws.{WeighTo, weigh-start, weigh-asks, rank-in, weigh-fits, weigh-turn, weigh-end}
 use borrow.Author.Needs.{needs}
 use Rattle.stages.proofs.moves.weigh.Statement.{statement}
 use Rattle.stages.proofs.moves.weigh.Tie as tie
-use Rattle.stages.proofs.moves.weigh.Reads as reads
-use Rattle.stages.proofs.moves.weigh.Lts as lts
-use Rattle.links.proofs.store_part.Reads as store-part-reads
-use Rattle.stages.proofs.moves.owner_in.Reads as owner-in-reads
-use Rattle.stages.proofs.moves.weight_in.Reads as weight-in-reads
 
 abbrev Inv-loop : tie.InvT-loop
 Inv-loop work₀ l loads ranks n v₀ work v = (v ≤ n) × (n ≡ l .vertices) × WeighTo work₀ work l loads ranks v
@@ -24,66 +19,51 @@ within c =
     let l = c .before .before .before .loop in
     rank-in (c .before .before .before .before .before .pre .0) (l .inv .2) (c .before .before .loop-test .taken) (c .owner-in .result) (c .owner-in .ensures)
 
-
--- src/moves.rt:107:5
 loop-holds : tie.Need-loop-holds Inv-loop μ-loop
 loop-holds c = (omega arith, refl, weigh-start (c .before .pre .0) (c .before .pre .1))
 
--- src/moves.rt:108:13
 owner-in-requires : tie.Need-owner-in-requires Inv-loop μ-loop
 owner-in-requires c κs = let l = c .before .before .loop in (weigh-asks (c .before .before .before .before .pre .0) (l .inv .2 .kept), omega (arith, c .before .loop-test .taken))
 
--- src/moves.rt:109:22
 add-x : tie.Need-add-x Inv-loop μ-loop
 add-x c = let h = within c in record { fits = omega (arith, c .before .before .before .before .before .pre .0 .room, c .before .before .before .before .before .good .0 .0) }
 
--- src/moves.rt:109:17
 mul-x : tie.Need-mul-x Inv-loop μ-loop
 mul-x c =
     let h : c .before .before .before .before .before .args .loads + c .owner-in .result < length (c .before .before .before .before .before .args .work .now) = (let k = within c in omega (arith, c .before .before .before .before .before .pre .0 .room)) in
     search needs
 
--- src/moves.rt:109:17
 slice-read-x : tie.Need-slice-read-x Inv-loop μ-loop
 slice-read-x c = let h = within (c .before) in omega (arith, c .before .before .before .before .before .before .pre .0 .room, c .before .before .before .before .loop .inv .2 .kept .same-length)
 
--- src/moves.rt:109:35
 weight-in-requires : tie.Need-weight-in-requires Inv-loop μ-loop
 weight-in-requires c κs = let l = c .before .before .before .before .before .loop in (weigh-asks (c .before .before .before .before .before .before .before .pre .0) (l .inv .2 .kept), omega (arith, c .before .before .before .before .loop-test .taken))
 
--- src/moves.rt:109:17
 add-x-2 : tie.Need-add-x-2 Inv-loop μ-loop
 add-x-2 c =
     let l = c .before .before .before .before .before .before .loop in
     record { fits = omega (arith, weigh-fits (c .before .before .before .before .before .before .before .before .pre .0) (l .inv .2) (c .before .before .before .before .before .loop-test .taken) (c .before .before .before .owner-in .result) (c .before .before .before .owner-in .ensures) (c .weight-in .result) (c .weight-in .ensures)) }
 
--- src/moves.rt:110:33
 add-store-part : tie.Need-add-store-part Inv-loop μ-loop
 add-store-part c = search needs
 
--- src/moves.rt:110:9
 store-part-requires : tie.Need-store-part-requires Inv-loop μ-loop
 store-part-requires c κs = let h = within (c .before .before .before .before) in (omega arith, omega (arith, c .before .before .before .before .before .before .before .before .before .pre .0 .room, c .before .before .before .before .before .before .before .loop .inv .2 .kept .same-length), omega arith)
 
--- src/moves.rt:111:9
 add-v : tie.Need-add-v Inv-loop μ-loop
 add-v c = search needs
 
--- src/moves.rt:107:5
 loop-less : tie.Need-loop-less Inv-loop μ-loop
 loop-less c = omega (arith, c .before .before .before .before .before .before .before .before .before .loop-test .taken)
 
--- src/moves.rt:107:5
 loop-again : tie.Need-loop-again Inv-loop μ-loop
 loop-again c =
     let l = c .before .before .before .before .before .before .before .before .before .before .loop in
     (omega (arith, c .before .before .before .before .before .before .before .before .before .loop-test .taken), l .inv .1, weigh-turn (c .before .before .before .before .before .before .before .before .before .before .before .before .pre .0) (l .inv .2) (c .before .before .before .before .before .before .before .before .before .loop-test .taken) (c .before .before .before .before .before .before .before .owner-in .result) (c .before .before .before .before .before .before .before .owner-in .ensures) (c .before .before .before .before .weight-in .result) (c .before .before .before .before .weight-in .ensures) _ (c .before .before .store-part .ensures))
 
--- src/moves.rt:101:1
 same-length : tie.Need-same-length Inv-loop μ-loop
 same-length c = c .before .loop .inv .2 .kept .same-length
 
--- src/moves.rt:101:1
 returns : tie.Need-returns Inv-loop μ-loop
 returns c =
     let l = c .before .loop in

@@ -1,24 +1,18 @@
-use mathlib.Core.Path.{_≡_, sym, ap, _∙_}
+use mathlib.Core.Path.{sym}
 use Rattle.stages.proofs.MovesSliceLaws.{weight-place}
 use borrow.Author.Needs.{needs}
 use Rattle.stages.proofs.moves.weight_in.Statement.{statement}
 use Rattle.stages.proofs.moves.weight_in.Tie as tie
-use Rattle.stages.proofs.moves.weight_in.Reads as reads
-use Rattle.stages.proofs.moves.weight_in.Lts as lts
 
--- src/moves.rt:51:10
 add-result : tie.Need-add-result
 add-result c = search needs
 
--- src/moves.rt:51:5
 mul-result : tie.Need-mul-result
 mul-result c = search needs
 
--- src/moves.rt:51:5
 shared-slice-read-result : tie.Need-shared-slice-read-result
 shared-slice-read-result c = search needs
 
--- src/moves.rt:46:1
 returns : tie.Need-returns
 returns c =
     let s = c .before in

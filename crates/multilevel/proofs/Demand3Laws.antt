@@ -1,0 +1,225 @@
+-- Demand 3 of every call. Assumes nothing.
+use Prim.Native.Nat.{ℕ, zero, suc, _+_, _*_, _/_, _≤_, _<_}
+use mathlib.Core.Path.{_≡_, refl, sym, ap, _∙_, subst}
+use mathlib.Core.Logic.{_⊎_, inl, inr}
+use mathlib.Core.Bool.{Bool, true, false, cond}
+use mathlib.Core.List.{List, [], _∷_, _++_, nil≢cons}
+use native.Mathlib.Nat.{div-mul-le-self, le-div-iff-mul-le}
+use native.Mathlib.Omega.{arith}
+use lib.ListN.{length, replicate, length-replicate}
+use lib.Dec.{ltb, eqb}
+use borrow.Author.Tests.{ne-eqb, eqb-true, le-ltb}
+use Rattle.links.specs.Lists.{unassigned, any, range, sum}
+use Rattle.links.specs.Loads.{saturating, share, loadCap, Balance, balance}
+use Rattle.links.specs.Graph.{vertexCount, load, owned}
+use Rattle.links.specs.Options.{stopSize}
+use Rattle.links.specs.declared.options.AbtmMultilevelStats.{AbtmMultilevelStats}
+use Rattle.stages.specs.Coarsen.{Coarse}
+use Rattle.stages.specs.Growth.{Turn, Growth, grown}
+use Rattle.stages.specs.Moves.{after}
+use Rattle.multilevel.specs.Causes.{Call, earlyCause}
+use Rattle.multilevel.specs.Division.{Outcome, refused, divided, Level, Run, Trace, noGrowth, swapPasses, solve, stepsOf, statsOf, abtmMultilevelPartition, finestWeights, division}
+use Rattle.multilevel.specs.Demand3.{siteRows, balanceOf, keptSteps, ladder, growthOn, moved, FairTurn, FairLevel, FairShares, Demand3}
+use Rattle.links.proofs.ListLaws.{split, all-at}
+use Rattle.links.proofs.RowLaws.{length-rows}
+use Rattle.stages.proofs.StepLaws.{foldl-append, length-steps}
+use Rattle.stages.proofs.GrowthLaws.{allPass}
+use Rattle.stages.proofs.LoadLaws.{load-owned, swaps-owned}
+use Rattle.multilevel.proofs.DivisionLaws.{Tested, tested, early-low, none-empty, chained, growthOn-fair, growthOn-last, first-at, linked-at, Grew, grew, not-yet, Done, Solved, solve-solved}
+
+-- ---- shares
+
+div-mono : (x y d : ℕ) → 0 < d → x ≤ y → x / d ≤ y / d
+div-mono x y d h k = le-div-iff-mul-le h .1 (omega (arith, div-mul-le-self x d))
+
+cap-share : (total k t : ℕ) → 1 ≤ k → t ≤ 500 → balance total k t .cap ≤ total * (1000 + t) / (1000 * k)
+unfolding balance loadCap share
+cap-share total k t h j =
+    let a : ltb 500 t ≡ false = le-ltb 500 t j in
+    let b : eqb k 0 ≡ false = ne-eqb k 0 (λ e. omega arith) in
+    let product = total * (1000 + t) in
+    rw (a, b) (div-mono (saturating product) product (1000 * k) (omega arith) (omega arith))
+
+-- the finest weights add up to the number of vertices
+pub sum-ones : (n : ℕ) → sum (replicate n 1) ≡ n
+sum-ones zero = refl
+sum-ones (suc n) = omega (arith, sum-ones n)
+
+module _ (b : Balance) (rows : List (List ℕ)) (swapping : ℕ) (cs : List Coarse) (t : Trace) (d : Done b swapping rows (finestWeights rows) cs t) where
+  -- swaps leave the numbers owned as the moves left them
+  same-owned : (r : ℕ) → owned (t .owners) r ≡ owned (moved (d .last)) r
+  same-owned r =
+      let l = d .last in
+      ap (λ (o : List ℕ). owned o r) (d .owners-are ∙ foldl-append after (l .moves) (l .swaps) (l .start))
+      ∙ swaps-owned rows r (l .swaps) (moved l) (d .sized) (d .swapped)
+
+  within-cap : (r : ℕ) → r < b .ranks → owned (t .owners) r ≤ b .cap
+  within-cap r h =
+      let o = moved (d .last) in
+      let w : load (finestWeights rows) o r ≤ b .cap = d .within r h in
+      let u : load (finestWeights rows) o r ≡ owned o r = rw (d .sized) at (load-owned o r) in
+      omega (arith, same-owned r)
+
+  size-owners : length (t .owners) ≡ length rows
+  size-owners =
+      let l = d .last in
+      ap length (d .owners-are) ∙ length-steps (stepsOf l) (l .start) ∙ sym (length-steps (l .moves) (l .start)) ∙ d .sized
+
+-- ---- a call
+
+abbrev trace : Call → Trace
+trace c =
+    let rows = siteRows c in
+    let passes = c .options .«refinement_passes» in
+    solve (balanceOf c) passes (swapPasses passes) rows (finestWeights rows) (keptSteps c)
+
+abbrev Ended : Call → Trace → Type 0
+Ended c t = Solved (balanceOf c) (swapPasses (c .options .«refinement_passes»)) (siteRows c) (finestWeights (siteRows c)) (keptSteps c) t
+
+few-ranks : (c : Call) → Tested c → balanceOf c .ranks < unassigned
+unfolding balance
+few-ranks c g = omega (arith, g .few-ranks)
+
+solved : (c : Call) → Tested c → Ended c (trace c)
+solved c g =
+    let rows = siteRows c in
+    let passes = c .options .«refinement_passes» in
+    let small : length rows < unassigned = omega (arith, length-rows (c .offsets) (c .neighbors), g .few-vertices) in
+    let weighed : length (finestWeights rows) ≡ length rows = length-replicate (length rows) 1 in
+    let chain = chained (c .options .«max_levels») (stopSize (c .options) (c .ranks)) rows (finestWeights rows) (g .lists .sound) small weighed in
+    solve-solved (balanceOf c) passes (few-ranks c g) (keptSteps c) (swapPasses passes) rows (finestWeights rows) (g .lists .sound) chain
+
+divided-of
+    : (x : Bool) (o owners : List ℕ) (s stats : AbtmMultilevelStats) (n : ℕ)
+    → cond x (divided o stats) (refused n) ≡ divided owners s
+    → (x ≡ true) × (owners ≡ o) × (s ≡ stats)
+divided-of true o owners s stats n e = (refl, cc, cc)
+divided-of false o owners s stats n e = let z : _≡_ {A = ℕ} 0 1 = cc in absurd (omega arith)
+
+refused-of : (x : Bool) (o : List ℕ) (s : AbtmMultilevelStats) (n m : ℕ) → cond x (divided o s) (refused n) ≡ refused m → n ≡ m
+refused-of true o s n m e = let z : _≡_ {A = ℕ} 0 1 = cc in absurd (omega arith)
+refused-of false o s n m e = cc
+
+-- how a trace ends
+abbrev ends : Call → Trace → Outcome
+ends c t = cond (eqb (t .refusal) 0) (divided (t .owners) (statsOf (siteRows c) (c .ranks) (keptSteps c) t)) (refused (t .refusal))
+
+shares-of
+    : (c : Call)
+    → Tested c
+    → (t : Trace)
+    → Ended c t
+    → (owners : List ℕ) (s : AbtmMultilevelStats)
+    → ends c t ≡ divided owners s
+    → FairShares c (t .levels) owners s
+unfolding balance statsOf
+shares-of c g t sol owners s e =
+    let rows = siteRows c in
+    let k = c .ranks in
+    let n = length-rows (c .offsets) (c .neighbors) in
+    let per = c .options .«imbalance_per_mille» in
+    let sw = swapPasses (c .options .«refinement_passes») in
+    let a = divided-of (eqb (t .refusal) 0) (t .owners) owners s (statsOf rows k (keptSteps c) t) (t .refusal) e in
+    let d = sol .done (eqb-true (t .refusal) 0 (a .0)) in
+    let fair-share : balanceOf c .cap ≤ vertexCount (c .offsets) * (1000 + per) / (1000 * k) =
+    subst (λ (x : ℕ). balanceOf c .cap ≤ x * (1000 + per) / (1000 * k)) (sum-ones (length rows) ∙ n)
+    (cap-share (sum (finestWeights rows)) k per (g .some-ranks) (g .tolerance)) in
+    rw (a .1, a .2) (record {
+      size = size-owners (balanceOf c) rows sw (keptSteps c) t d ∙ n;
+      least = λ r h. omega (arith, same-owned (balanceOf c) rows sw (keptSteps c) t d r, none-empty k (moved (d .last)) (d .checked) r h);
+      most = λ r h. omega (arith, within-cap (balanceOf c) rows sw (keptSteps c) t d r h, fair-share);
+      whole = d .whole;
+      finest = (d .coarser, d .last, d .levels-are, d .rows-are, d .owners-are);
+      moves = refl;
+    })
+
+-- ---- growth
+
+-- every turn of a growth is fair
+abbrev FairGrowth : ℕ → Growth → Type 0
+FairGrowth cap g = (before later : List Turn) (t : Turn) → g .turns ≡ before ++ t ∷ later → FairTurn cap g (grown g before) t
+
+-- it ended with a round in which every rank passed
+abbrev LastRound : ℕ → Growth → Type 0
+LastRound k g = (before : List Turn) × (g .turns ≡ before ++ allPass (range 0 k))
+
+no-turns : (cap : ℕ) → FairGrowth cap noGrowth
+no-turns cap [] later t e = absurd (nil≢cons e)
+no-turns cap (x ∷ before) later t e = absurd (nil≢cons e)
+
+module _ (b : Balance) (rows : List (List ℕ)) (ws : List ℕ) (cs : List Coarse) (t : Trace) where
+  fair-turns : Grew (growthOn b rows ws cs) t → FairGrowth (b .cap) (t .growth)
+  fair-turns (grew e) = subst (FairGrowth (b .cap)) (sym e) (growthOn-fair b cs rows ws)
+  fair-turns (not-yet e l some low) = subst (FairGrowth (b .cap)) (sym e) (no-turns (b .cap))
+
+  last-turns
+      : b .ranks < unassigned
+      → Grew (growthOn b rows ws cs) t
+      → t .refusal ≡ 8
+      → any (eqb unassigned) (grown (t .growth) (t .growth .turns)) ≡ true
+      → LastRound (b .ranks) (t .growth)
+  last-turns n (grew e) z u =
+      let Vacant : Growth → Type 0 = λ g. any (eqb unassigned) (grown g (g .turns)) ≡ true in
+      subst (LastRound (b .ranks)) (sym e) (growthOn-last b cs rows ws n (subst Vacant e u))
+  last-turns n (not-yet e l some low) z u = absurd (omega arith)
+
+-- ---- a division whose call passed the tests, and one whose call did not
+
+-- which growth there was
+abbrev GrowthTold : Call → Run → Type 0
+GrowthTold c run =
+    (run .growth ≡ growthOn (balanceOf c) (siteRows c) (finestWeights (siteRows c)) (keptSteps c))
+    ⊎ ((number : ℕ) × (run .outcome ≡ refused number) × (number < 8) × (run .growth ≡ noGrowth) × (run .levels ≡ []))
+
+abbrev runOf : Call → Trace → Run
+runOf c t = record { growth = t .growth; levels = t .levels; outcome = ends c t }
+
+growth-told
+    : (c : Call) (t : Trace) → Grew (growthOn (balanceOf c) (siteRows c) (finestWeights (siteRows c)) (keptSteps c)) t → GrowthTold c (runOf c t)
+growth-told c t (grew e) = inl e
+growth-told c t (not-yet e l some low) = inr (t .refusal, rw (ne-eqb (t .refusal) 0 some), low, e, l)
+
+worked : (c : Call) → Tested c → (t : Trace) → Ended c t → Demand3 c (runOf c t)
+unfolding balance
+worked c g t sol =
+    let b = balanceOf c in
+    let rows = siteRows c in
+    let ws : List ℕ = finestWeights rows in
+    let cs = keptSteps c in
+    record {
+      shares = shares-of c g t sol;
+      growth = growth-told c t (sol .growth);
+      turns = fair-turns b rows ws cs t (sol .growth);
+      lastRound = λ e.
+          let z = refused-of (eqb (t .refusal) 0) (t .owners) (statsOf rows (c .ranks) cs t) (t .refusal) 8 e in
+          last-turns b rows ws cs t (few-ranks c g) (sol .growth) z (sol .unclaimed z);
+      ladders = (sol .rest, sol .climbed);
+      levels = λ coarser finer l e. all-at (FairLevel b) (t .levels) coarser finer l (sol .fair) e;
+      coarsest = λ l finer e. first-at (t .growth) (t .levels) (sol .first) l finer e;
+      takeover = λ coarser finer l m e. linked-at (t .levels) coarser finer l m (sol .linked) e;
+    }
+
+no-levels : (xs : List Level) (l : Level) (ys : List Level) → [] ≡ xs ++ l ∷ ys → ⊥
+no-levels [] l ys e = nil≢cons e
+no-levels (x ∷ xs) l ys e = nil≢cons e
+
+untouched : (c : Call) (number : ℕ) → number < 8 → Demand3 c (record { growth = noGrowth; levels = []; outcome = refused number })
+untouched c number low =
+    record {
+      shares = λ owners s e. let z : _≡_ {A = ℕ} 0 1 = cc in absurd (omega arith);
+      growth = inr (number, refl, low, refl, refl);
+      turns = no-turns (balanceOf c .cap);
+      lastRound = λ e. let z : number ≡ 8 = cc in absurd (omega arith);
+      ladders = (ladder (siteRows c) (finestWeights (siteRows c)) (keptSteps c), refl);
+      levels = λ coarser finer l e. absurd (no-levels coarser l finer e);
+      coarsest = λ l finer e. absurd (nil≢cons e);
+      takeover = λ coarser finer l m e. absurd (no-levels coarser l (m ∷ finer) e);
+    }
+
+-- ---- demand 3
+
+pub demand3 : (c : Call) → Demand3 c (division c)
+unfolding division abtmMultilevelPartition
+demand3 c = split (eqb (earlyCause c) 0)
+    (λ q. let g = tested c (eqb-true (earlyCause c) 0 q) in rw q (worked c g (trace c) (solved c g)))
+    (λ q. rw q (untouched c (earlyCause c) (early-low c)))

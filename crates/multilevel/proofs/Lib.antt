@@ -1,0 +1,4 @@
+pub mod LevelLaws
+pub mod DivisionLaws
+pub mod Demand3Laws
+pub mod SiteLaws
