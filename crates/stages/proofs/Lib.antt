@@ -17,3 +17,4 @@ pub mod SwapStepLaws
 pub mod ListingLaws
 pub mod LoadLaws
 pub mod GroupingLaws
+pub mod SwapPassLaws

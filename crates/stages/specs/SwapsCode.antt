@@ -1,17 +1,17 @@
 -- What the code of rule 7 keeps in the work slice, and what it promises. Assumes nothing.
-use Prim.Native.Nat.{ℕ, _+_, _-_, _*_, _≤_, _<_, _^_}
+use Prim.Native.Nat.{ℕ, suc, _+_, _-_, _*_, _≤_, _<_, _^_}
 use mathlib.Core.Path.{_≡_}
 use mathlib.Core.Bool.{Bool, not, _&&_, cond}
 use mathlib.Core.List.{List, [], _∷_}
 use mathlib.Core.Logic.{_⊎_}
 use lib.Dec.{ltb, eqb}
 use lib.ListN.{length, take, set}
-use Rattle.links.specs.Lists.{at, insert, foldl, elem, range}
+use Rattle.links.specs.Lists.{at, insert, foldl, elem, range, concatMap}
 use Rattle.links.specs.Parts.{part, Kept}
 use Rattle.links.specs.Graph.{linksIn, linksTo, load}
 use Rattle.stages.specs.Level.{offsetsAt, neighborsAt, rowsAt, weightsAt, ownersAt, Ready, balanceIn}
 use Rattle.stages.specs.Moves.{Step, move, swap, after}
-use Rattle.stages.specs.Swaps.{Candidate, Proposal, ahead, sooner, propose, candidates, applies, swapPass, allProposals, refineFinePairSwaps}
+use Rattle.stages.specs.Swaps.{Candidate, Proposal, ahead, sooner, propose, proposals, candidates, applies, swapPass, allProposals, refineFinePairSwaps}
 use Rattle.stages.specs.MovesCode.{Ranked, Clear, Loaded}
 use Rattle.stages.specs.Slots.{candidate, slots}
 use Rattle.stages.specs.declared.level.HierarchyLevel.{HierarchyLevel}
@@ -140,6 +140,13 @@ pub record Named (n : ℕ) (p : Proposal) : Type 0 where
   pub first-in : p .first < n
   pub second-in : p .second < n
 
+-- the lists at x and at y are those of ranks a and b, and of b and a
+pub record Facing (w : List ℕ) (s : SwapRoom) (x y : ℕ) (owners : List ℕ) (a b : ℕ) : Type 0 where
+  pub fore-in : x + 24 ≤ length w
+  pub back-in : y + 24 ≤ length w
+  pub fore : slots candidate 8 (part w x (x + 24)) ≡ candidates 8 (rowsAt w (s .level)) owners a b
+  pub back : slots candidate 8 (part w y (y + 24)) ≡ candidates 8 (rowsAt w (s .level)) owners b a
+
 -- ---- swaps
 
 -- those that a step uses are used
@@ -190,3 +197,10 @@ pub record Taken (w w′ : List ℕ) (s : SwapRoom) (number : ℕ) (ps : List Pr
       → Marked w s used
       → Done w w′ s used number
       (swapPass (balanceIn (s .limits)) (rowsAt w (s .level)) (weightsAt w (s .level)) ps used (ownersAt w (s .level)))
+
+-- the proposals of ranks a and b up to c, and those of all ranks below c, from given owners
+abbrev pub rankProposals : List (List ℕ) → List ℕ → ℕ → ℕ → List Proposal
+rankProposals rows owners a c = concatMap (proposals 8 rows owners a) (range (suc a) (c - suc a))
+
+abbrev pub ranksProposals : List (List ℕ) → List ℕ → ℕ → ℕ → List Proposal
+ranksProposals rows owners k c = concatMap (λ a. rankProposals rows owners a k) (range 0 c)

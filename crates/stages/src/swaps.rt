@@ -8,10 +8,10 @@ ghost use Rattle.links.specs.Lists.{at, All, foldl};
 ghost use Rattle.links.specs.Graph.{row, linksIn, linksTo};
 ghost use Rattle.stages.specs.Level.{offsetsAt, neighborsAt, rowsAt, weightsAt, ownersAt, balanceIn};
 ghost use Rattle.stages.specs.Moves.{linked, gain, swap};
-ghost use Rattle.stages.specs.Swaps.{inBalance, applies};
+ghost use Rattle.stages.specs.Swaps.{inBalance, applies, proposals};
 ghost use Rattle.stages.specs.Slots.{candidate, proposal, slots};
 ghost use Rattle.stages.specs.MovesCode.{Clear, Tallied};
-ghost use Rattle.stages.specs.SwapsCode.{listPlace, Given, Offered, OfferedEntry, Offering, Listed, Empty, ListedAll, Standing, Marked, candidateOf, Fair, Named, proposed, changed, traded, Tradable, Swapped, Taken};
+ghost use Rattle.stages.specs.SwapsCode.{listPlace, Given, Offered, OfferedEntry, Offering, Listed, Empty, ListedAll, Standing, Marked, candidateOf, Fair, Named, proposed, changed, traded, Tradable, Swapped, Facing, Taken};
 use crate::level::HierarchyLevel;
 use crate::level::Limits;
 use crate::moves::owner_at;
@@ -349,4 +349,18 @@ fn take_all(work: &mut [u32], s: SwapRoom, list: &[u32], n: usize) -> u32
         j += 1;
     }
     done
+}
+
+// ---- a pass
+
+// The swaps of two ranks, whose lists begin at x and at y.
+fn swap_listed(work: &mut [u32], s: SwapRoom, x: usize, y: usize) -> u32
+    requires { ⌜ Standing (now work) s × ((owners : List ℕ) × (a : ℕ) × (b : ℕ) × Facing (now work) s x y owners a b) ⌝ }
+    ensures { λ r. ⌜ (r ≤ 64) × ((owners : List ℕ) (a b : ℕ) → Facing (now (work .entry)) s x y owners a b
+        → Taken (now (work .entry)) (now (work .exit)) s r (proposals 8 (rowsAt (now (work .entry)) (s .level)) owners a b)) ⌝ }
+{
+    let mut list = [0u32; 192];
+    let w = &work[..];
+    propose_all(&mut list[..], 64, w, s, &w[x..x + 24], &w[y..y + 24], 8);
+    take_all(work, s, &list[..], 64)
 }
