@@ -5,6 +5,7 @@ use mathlib.Core.Bool.{Bool, true, false, not}
 use mathlib.Core.List.{List, [], _∷_, _++_, append-nil}
 use native.Mathlib.Omega.{arith}
 use native.Mathlib.Numerals.{add-one}
+use native.Mathlib.Nat.{zero-add}
 use lib.Dec.{eqb}
 use lib.ListN.{length}
 use Rattle.links.specs.Lists.{at, All, foldl, range, concatMap}
@@ -58,3 +59,86 @@ module _ {w : List ℕ} {s : SwapRoom} (g : Given w s) where
 
     pub named : (ps : List Proposal) → ps ≡ proposals 8 rows owners a b → All (Named (s .level .vertices)) ps
     named ps e = rw e (rw (rows-all (g .ready)) at (proposals-named rows short-rows 8 owners a b))
+
+-- ---- a rank and the later ones, and all ranks
+
+module _ {w : List ℕ} {s : SwapRoom} (g : Given w s) where
+  abbrev k : ℕ
+  k = s .limits .ranks
+
+  place-fits : (a b : ℕ) → a < k → b < k → listPlace s a b + 24 ≤ length w
+  place-fits a b p q = omega (arith, pair-below a b k p q, g .lists-in)
+
+  -- a list whose first number is 0 is empty
+  first-of : (z : ℕ) → at w z ≡ 0 → slots candidate 8 (part w z (z + 24)) ≡ []
+  first-of z e =
+      let i : z + 0 ≡ z = omega arith in
+      slots-empty candidate 8 (part w z (z + 24)) (getD-part w z (z + 24) 0 (omega arith) ∙ ap (at w) i ∙ e)
+
+  -- two places of lists
+  module _ (owners : List ℕ) (f : Holding w s owners) {a b : ℕ} (p : a < k) (q : b < k) (d : a < b) (x y : ℕ) (ex : x ≡ listPlace s a b) (ey : y ≡ listPlace s b a) where
+    pub facing : Facing w s x y owners a b
+    facing = record {
+      fore-in = rw ex (place-fits a b p q);
+      back-in = rw ey (place-fits b a q p);
+      fore = rw ex (f a b p q (λ e. omega arith));
+      back = rw ey (f b a q p (λ e. omega arith));
+    }
+
+    -- an empty list on one side
+    pub pair-empty : Standing w s → at w x ≡ 0 → Taken w w s 0 (proposals 8 (rowsAt w (s .level)) owners a b)
+    pair-empty t e = rw (proposals-none (rowsAt w (s .level)) 8 owners a b (sym (facing .fore) ∙ first-of x e)) (taken-none t)
+
+    pub pair-empty-back : Standing w s → at w y ≡ 0 → Taken w w s 0 (proposals 8 (rowsAt w (s .level)) owners a b)
+    pair-empty-back t e = rw (proposals-none-back (rowsAt w (s .level)) 8 owners a b (sym (facing .back) ∙ first-of y e)) (taken-none t)
+
+  -- the lists stay while swaps are made
+  module _ {w₁ : List ℕ} {done : ℕ} {ps : List Proposal} (t : Taken w w₁ s done ps) where
+    same-rows : rowsAt w₁ (s .level) ≡ rowsAt w (s .level)
+    same-rows = rows-kept (g .ready) (t .kept) (omega arith)
+
+    pub holding-on : (owners : List ℕ) → Holding w s owners → Holding w₁ s owners
+    holding-on owners f a b p q d = list-kept s (t .kept) (omega (arith, g .tallies-in)) a b ∙ f a b p q d ∙ rw same-rows
+
+    -- one pair more
+    pub pair-turn
+        : {w₂ : List ℕ} {more : ℕ} (owners : List ℕ) (a b : ℕ)
+        → ps ≡ rankProposals (rowsAt w (s .level)) owners a b
+        → a < b
+        → Taken w₁ w₂ s more (proposals 8 (rowsAt w₁ (s .level)) owners a b)
+        → Taken w w₂ s (done + more) (rankProposals (rowsAt w (s .level)) owners a (b + 1))
+    pair-turn {w₂} {more} owners a b e h u =
+        let f = proposals 8 (rowsAt w (s .level)) owners a in
+        let n : b + 1 - suc a ≡ suc (b - suc a) = omega arith in
+        let m : suc a + (b - suc a) ≡ b = omega arith in
+        let split-off : rankProposals (rowsAt w (s .level)) owners a (b + 1) ≡ ps ++ f b =
+            ap (λ (z : ℕ). concatMap f (range (suc a) z)) n
+            ∙ ap (concatMap f) (range-more (suc a) (b - suc a))
+            ∙ concat-append f (range (suc a) (b - suc a)) ((suc a + (b - suc a)) ∷ [])
+            ∙ ap (λ (z : ℕ). rankProposals (rowsAt w (s .level)) owners a b ++ (f z ++ [])) m
+            ∙ rw (append-nil (f b), e) in
+        rw split-off (taken-then g t (rw same-rows at u))
+
+    -- one rank more
+    pub rank-turn
+        : {w₂ : List ℕ} {more : ℕ} (owners : List ℕ) (a : ℕ)
+        → ps ≡ ranksProposals (rowsAt w (s .level)) owners k a
+        → Taken w₁ w₂ s more (rankProposals (rowsAt w₁ (s .level)) owners a k)
+        → Taken w w₂ s (done + more) (ranksProposals (rowsAt w (s .level)) owners k (a + 1))
+    rank-turn {w₂} {more} owners a e u =
+        let f : ℕ → List Proposal = λ a. rankProposals (rowsAt w (s .level)) owners a k in
+        let split-off : ranksProposals (rowsAt w (s .level)) owners k (a + 1) ≡ ps ++ f a =
+            ap (λ (z : ℕ). concatMap f (range 0 z)) (add-one a)
+            ∙ ap (concatMap f) (range-more 0 a)
+            ∙ concat-append f (range 0 a) ((0 + a) ∷ [])
+            ∙ ap (λ (z : ℕ). ranksProposals (rowsAt w (s .level)) owners k a ++ (f z ++ [])) (zero-add a)
+            ∙ rw (append-nil (f a), e) in
+        rw split-off (taken-then g t (rw same-rows at u))
+
+-- before the first pair, and before the first rank
+pub pairs-none : (rows : List (List ℕ)) (owners : List ℕ) (a : ℕ) → rankProposals rows owners a (a + 1) ≡ []
+pairs-none rows owners a = let e : a + 1 - suc a ≡ 0 = omega arith in rw e
+
+pub ranks-all : (rows : List (List ℕ)) (owners : List ℕ) (k : ℕ) → ranksProposals rows owners k k ≡ allProposals 8 rows k owners
+unfolding allProposals
+ranks-all rows owners k = refl

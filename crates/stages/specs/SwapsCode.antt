@@ -204,3 +204,38 @@ rankProposals rows owners a c = concatMap (proposals 8 rows owners a) (range (su
 
 abbrev pub ranksProposals : List (List ℕ) → List ℕ → ℕ → ℕ → List Proposal
 ranksProposals rows owners k c = concatMap (λ a. rankProposals rows owners a k) (range 0 c)
+
+-- a pass from given owners
+abbrev pub passFrom : List ℕ → SwapRoom → List ℕ → List Step
+passFrom w s owners =
+    swapPass (balanceIn (s .limits)) (rowsAt w (s .level)) (weightsAt w (s .level)) (allProposals 8 (rowsAt w (s .level)) (s .limits .ranks) owners) []
+    owners
+
+-- these steps were made, so many
+pub record Stepped (w w′ : List ℕ) (s : SwapRoom) (steps : List Step) (count : ℕ) : Type 0 where
+  pub owners-are : ownersAt w′ (s .level) ≡ foldl after (ownersAt w (s .level)) steps
+  pub counted : count ≡ length steps
+  pub standing : Standing w′ s
+  pub clear : Clear w′ (s .tallies) (s .limits .ranks)
+  pub kept : Kept (s .level .owners) (length w) w′ w
+
+-- ---- the stage
+
+-- the steps that rule 7 makes of a level's owners, with 8 candidates a list
+abbrev pub swapsAt : List ℕ → HierarchyLevel → Limits → ℕ → List Step
+swapsAt w l limits passes = refineFinePairSwaps (balanceIn limits) (rowsAt w l) (weightsAt w l) 8 passes (ownersAt w l) .steps
+
+-- a level whose owners are ranks; from scratch on room for a flag for each vertex and two numbers for each rank; and room for the lists
+pub record Swappable (w : List ℕ) (l : HierarchyLevel) (scratch lists ranks : ℕ) : Type 0 where
+  pub ready : Ready w l scratch
+  pub room : scratch + l .vertices + 2 * ranks ≤ lists
+  pub lists-in : lists + 24 * (ranks * ranks) ≤ length w
+  pub few : ranks ≤ 256
+  pub ranked : Ranked w l ranks
+
+pub record RefinedBySwaps (w w′ : List ℕ) (l : HierarchyLevel) (scratch : ℕ) (limits : Limits) (passes r : ℕ) : Type 0 where
+  pub owners : ownersAt w′ l ≡ foldl after (ownersAt w l) (swapsAt w l limits passes)
+  pub number : r ≡ length (swapsAt w l limits passes)
+  pub ready : Ready w′ l scratch
+  pub ranked : Ranked w′ l (limits .ranks)
+  pub kept : Kept (l .owners) (length w) w′ w

@@ -8,3 +8,4 @@ pub use level::HierarchyLevel;
 pub use level::Limits;
 pub use moves::Refined;
 pub use moves::refine_by_cut;
+pub use swaps::refine_fine_pair_swaps;

@@ -8,16 +8,18 @@ ghost use Rattle.links.specs.Lists.{at, All, foldl};
 ghost use Rattle.links.specs.Graph.{row, linksIn, linksTo};
 ghost use Rattle.stages.specs.Level.{offsetsAt, neighborsAt, rowsAt, weightsAt, ownersAt, balanceIn};
 ghost use Rattle.stages.specs.Moves.{linked, gain, swap};
-ghost use Rattle.stages.specs.Swaps.{inBalance, applies, proposals};
+ghost use Rattle.stages.specs.Swaps.{inBalance, applies, proposals, allProposals};
 ghost use Rattle.stages.specs.Slots.{candidate, proposal, slots};
 ghost use Rattle.stages.specs.MovesCode.{Clear, Tallied};
-ghost use Rattle.stages.specs.SwapsCode.{listPlace, Given, Offered, OfferedEntry, Offering, Listed, Empty, ListedAll, Standing, Marked, candidateOf, Fair, Named, proposed, changed, traded, Tradable, Swapped, Facing, Taken};
+ghost use Rattle.stages.specs.SwapsCode.{listPlace, Given, Offered, OfferedEntry, Offering, Listed, Empty, ListedAll, Standing, Marked, candidateOf, Fair, Named, proposed, changed, traded, Tradable, Swapped, Holding, Facing, Taken, rankProposals, passFrom, Stepped, swapsAt, Swappable, RefinedBySwaps};
 use crate::level::HierarchyLevel;
 use crate::level::Limits;
+use crate::moves::clear;
 use crate::moves::owner_at;
 use crate::moves::owner_in;
 use crate::moves::row_start;
 use crate::moves::tally;
+use crate::moves::weigh;
 use crate::moves::weight_in;
 use crate::slots::Member;
 use crate::slots::add;
@@ -363,4 +365,111 @@ fn swap_listed(work: &mut [u32], s: SwapRoom, x: usize, y: usize) -> u32
     let w = &work[..];
     propose_all(&mut list[..], 64, w, s, &w[x..x + 24], &w[y..y + 24], 8);
     take_all(work, s, &list[..], 64)
+}
+
+// The swaps of ranks a and b.
+fn swap_pair(work: &mut [u32], s: SwapRoom, a: usize, b: usize) -> u32
+    requires { ⌜ Standing (now work) s × (a < s .limits .ranks) × (b < s .limits .ranks) × (a < b) × ((owners : List ℕ) × Holding (now work) s owners) ⌝ }
+    ensures { λ r. ⌜ (r ≤ 64) × ((owners : List ℕ) → Holding (now (work .entry)) s owners
+        → Taken (now (work .entry)) (now (work .exit)) s r (proposals 8 (rowsAt (now (work .entry)) (s .level)) owners a b)) ⌝ }
+{
+    let x = list_at(s, a, b);
+    let y = list_at(s, b, a);
+    if work[x] == 0 {
+        return 0;
+    }
+    if work[y] == 0 {
+        return 0;
+    }
+    swap_listed(work, s, x, y)
+}
+
+// The swaps of rank a and each later one.
+fn swap_rank(work: &mut [u32], s: SwapRoom, a: usize) -> u32
+    requires { ⌜ Standing (now work) s × (a < s .limits .ranks) × ((owners : List ℕ) × Holding (now work) s owners) ⌝ }
+    ensures { λ r. ⌜ (r ≤ 16384) × ((owners : List ℕ) → Holding (now (work .entry)) s owners
+        → Taken (now (work .entry)) (now (work .exit)) s r (rankProposals (rowsAt (now (work .entry)) (s .level)) owners a (s .limits .ranks))) ⌝ }
+{
+    let mut done: u32 = 0;
+    let mut b = a + 1;
+    while b < s.limits.ranks {
+        done = done + swap_pair(work, s, a, b);
+        b += 1;
+    }
+    done
+}
+
+// The swaps of all ranks.
+fn swap_ranks(work: &mut [u32], s: SwapRoom) -> u32
+    requires { ⌜ Standing (now work) s × ((owners : List ℕ) × Holding (now work) s owners) ⌝ }
+    ensures { λ r. ⌜ (r ≤ 4194304) × ((owners : List ℕ) → Holding (now (work .entry)) s owners
+        → Taken (now (work .entry)) (now (work .exit)) s r (allProposals 8 (rowsAt (now (work .entry)) (s .level)) (s .limits .ranks) owners)) ⌝ }
+{
+    let mut done: u32 = 0;
+    let mut a = 0;
+    while a < s.limits.ranks {
+        done = done + swap_rank(work, s, a);
+        a += 1;
+    }
+    done
+}
+
+// A pass: the number of swaps.
+fn swap_pass(work: &mut [u32], s: SwapRoom) -> u32
+    requires { ⌜ Standing (now work) s × Clear (now work) (s .tallies) (s .limits .ranks) ⌝ }
+    ensures { λ r. ⌜ Stepped (now (work .entry)) (now (work .exit)) s (passFrom (now (work .entry)) s (ownersAt (now (work .entry)) (s .level))) r ⌝ }
+{
+    let ranks = s.limits.ranks;
+    clear(work, s.used, s.level.vertices);
+    clear(work, s.lists, 24 * (ranks * ranks));
+    list_all(work, s);
+    swap_ranks(work, s)
+}
+
+// Up to so many passes, ending after one without a swap: the number of swaps.
+fn swap_passes(work: &mut [u32], s: SwapRoom, passes: u64) -> u64
+    requires { ⌜ Standing (now work) s × Clear (now work) (s .tallies) (s .limits .ranks) ⌝ }
+    ensures { λ r. ⌜ Stepped (now (work .entry)) (now (work .exit)) s (swapsAt (now (work .entry)) (s .level) (s .limits) passes) r ⌝ }
+{
+    let mut total: u64 = 0;
+    let mut p: u64 = 0;
+    while p < passes {
+        let swaps = swap_pass(work, s);
+        p += 1;
+        if swaps == 0 {
+            return total;
+        }
+        total = total + wide(swaps);
+    }
+    total
+}
+
+// Rule 7: swaps on a level's owners, and their number. It uses a number for each vertex and two for each rank from scratch on, and 24 for each
+// ordered rank pair from lists on.
+// Rules out: a swap that is not made, or of other vertices; a swap from gains that do not hold any more; a vertex that is swapped twice in a
+// pass; a pass after one without a swap.
+pub fn refine_fine_pair_swaps(
+    work: &mut [u32],
+    l: HierarchyLevel,
+    scratch: usize,
+    lists: usize,
+    limits: Limits,
+    passes: u64,
+) -> u64
+    requires { ⌜ Swappable (now work) l scratch lists (limits .ranks) ⌝ }
+    ensures { λ r. ⌜ RefinedBySwaps (now (work .entry)) (now (work .exit)) l scratch limits passes r ⌝ }
+{
+    let n = l.vertices;
+    let ranks = limits.ranks;
+    let s = SwapRoom {
+        level: l,
+        limits,
+        used: scratch,
+        loads: scratch + n,
+        tallies: scratch + n + ranks,
+        lists,
+    };
+    clear(work, scratch + n, 2 * ranks);
+    weigh(work, l, scratch + n, ranks);
+    swap_passes(work, s, passes)
 }
