@@ -1,5 +1,6 @@
 pub mod LoadSetLaws
 pub mod TallyLaws
+pub mod SlotLaws
 pub mod TargetLaws
 pub mod MovesLaws
 pub mod MovesSliceLaws
@@ -10,6 +11,10 @@ pub mod MovesPassLaws
 pub mod CutLaws
 pub mod StepLaws
 pub mod GrowthLaws
+pub mod SwapListLaws
+pub mod SwapsSliceLaws
+pub mod SwapStepLaws
+pub mod ListingLaws
 pub mod LoadLaws
 pub mod GroupingLaws
 pub mod RankLaws
@@ -37,3 +42,4 @@ pub mod GrowthSliceLaws
 pub mod GrowthRoundLaws
 pub mod GrowthStartLaws
 pub mod GrowthStageLaws
+pub mod SwapPassLaws

@@ -6,6 +6,8 @@ pub mod Moves
 pub mod Swaps
 pub mod CoarsenCode
 pub mod CoarsenParts
+pub mod Slots
+pub mod SwapsCode
 pub mod MovesCode
 pub mod SeedsCode
 pub mod FrontierCode

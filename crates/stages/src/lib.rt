@@ -1,6 +1,8 @@
 // The five stages of a division: coarsening, seeds, growth, moves, swaps (rules 3 to 7 of document 01), over one lent work slice.
 mod coarsen;
 mod level;
+mod slots;
+mod swaps;
 mod moves;
 
 pub use coarsen::Coarsened;
@@ -15,3 +17,4 @@ pub use level::HierarchyLevel;
 pub use level::Limits;
 pub use moves::Refined;
 pub use moves::refine_by_cut;
+pub use swaps::refine_fine_pair_swaps;

@@ -1,0 +1,392 @@
+-- Rule 7's listing in the work slice: a vertex is offered to the list of each other rank among its neighbors' owners, once. Assumes nothing.
+use Prim.Native.Nat.{ℕ, zero, suc, _+_, _-_, _*_, _≤_, _<_}
+use mathlib.Core.Path.{_≡_, refl, sym, ap, _∙_, subst}
+use mathlib.Core.Bool.{Bool, true, false, cond}
+use mathlib.Core.List.{List, [], _∷_, _++_}
+use mathlib.Core.Logic.{_⊎_, inl, inr, ⊎-elim}
+use native.Mathlib.Omega.{arith}
+use native.Mathlib.Nat.{mul-le-mul-right}
+use lib.Dec.{eqb, ltb}
+use lib.ListN.{length, set, take, length-set}
+use lib.Seq.{getD-set-same, getD-set-other}
+use borrow.Author.Tests.{eq-eqb, ne-eqb, eqb-true, eqb-false, ltb-true, ltb-false, lt-ltb, le-ltb}
+use Rattle.links.specs.Lists.{at, insert}
+use Rattle.links.specs.Parts.{part, putBack, Kept}
+use Rattle.links.specs.Graph.{linksIn, linksTo}
+use Rattle.links.proofs.ListLaws.{split, tally}
+use Rattle.links.proofs.PartLaws.{part-putBack, kept-refl, kept-trans, kept-wide, kept-set, kept-putBack, kept-part-before, kept-part-after}
+use Rattle.stages.specs.Level.{offsetsAt, neighborsAt, rowsAt, ownersAt, Laid, Ready}
+use Rattle.stages.specs.Swaps.{Candidate, ahead, candidates}
+use Rattle.stages.specs.Slots.{candidate, slots}
+use Rattle.stages.specs.MovesCode.{Clear, Tallied}
+use Rattle.stages.specs.SwapsCode.{listPlace, listAt, Given, offerVertex, Offered, Waiting, Met, Offering, OfferedEntry, Listed, Holding}
+use Rattle.stages.specs.declared.swaps.SwapRoom.{SwapRoom}
+use Rattle.stages.proofs.TallyLaws.{links-cons, links-none}
+use Rattle.stages.proofs.MovesSliceLaws.{neighbors-all, rows-all, neighbors-kept, row-part, row-rises, row-ends, rows-kept, owners-kept}
+use Rattle.stages.proofs.SwapListLaws.{offer-other, offer-none, offer-some, listedTo, listed-more, listed-all}
+use Rattle.stages.proofs.SwapStepLaws.{given-after}
+
+-- ---- the places of k × k lists
+
+pub pair-below : (a b k : ℕ) → a < k → b < k → a * k + b < k * k
+pair-below a b k h m =
+    let z : (a + 1) * k ≤ k * k = mul-le-mul-right k (omega arith) in
+    omega arith
+
+-- different ranks have different lists
+pub pair-apart : (a b c d k : ℕ) → b < k → d < k → a * k + b ≡ c * k + d → (a ≡ c) × (b ≡ d)
+pair-apart a b c d k h m e = split (ltb a c)
+    (λ p.
+    let q : a < c = ltb-true a c p in
+    let z : (a + 1) * k ≤ c * k = mul-le-mul-right k (omega arith) in
+    absurd (omega arith))
+    (λ p.
+    let q : c ≤ a = ltb-false a c p in
+    split (ltb c a)
+    (λ p.
+    let q : c < a = ltb-true c a p in
+    let z : (c + 1) * k ≤ a * k = mul-le-mul-right k (omega arith) in
+    absurd (omega arith))
+    (λ p.
+    let r : a ≤ c = ltb-false c a p in
+    let f : a ≡ c = omega arith in
+    let g : a * k ≡ c * k = ap (λ (i : ℕ). i * k) f in
+    (f, omega arith)))
+
+module _ {w w′ : List ℕ} (s : SwapRoom) where
+  -- a list stays where something before the lists changed, or another list
+  pub list-kept : {x e : ℕ} → Kept x e w′ w → e ≤ s .lists → (a b : ℕ) → listAt w′ s a b ≡ listAt w s a b
+  list-kept {x} {e} k h a b = ap (slots candidate 8) (kept-part-after x e w′ w k (listPlace s a b) (listPlace s a b + 24) (omega arith))
+
+  pub list-other
+      : (a b : ℕ)
+      → Kept (listPlace s a b) (listPlace s a b + 24) w′ w
+      → (c d : ℕ)
+      → b < s .limits .ranks
+      → d < s .limits .ranks
+      → ((c ≡ a) × (d ≡ b) → ⊥)
+      → listAt w′ s c d ≡ listAt w s c d
+  list-other a b k c d h m f =
+      let p = a * s .limits .ranks + b in
+      let q = c * s .limits .ranks + d in
+      ap (slots candidate 8)
+      (split (ltb q p)
+      (λ l.
+      let z : q < p = ltb-true q p l in
+      kept-part-before (listPlace s a b) (listPlace s a b + 24) w′ w k (listPlace s c d) (listPlace s c d + 24) (omega arith))
+      (λ l.
+      let z : p ≤ q = ltb-false q p l in
+      let y : p < q = split (ltb p q) (λ i. ltb-true p q i) (λ i. let j : q ≤ p = ltb-false p q i in absurd (f (pair-apart c d a b (s .limits .ranks) m h (omega arith)))) in
+      kept-part-after (listPlace s a b) (listPlace s a b + 24) w′ w k (listPlace s c d) (listPlace s c d + 24) (omega arith)))
+
+-- the room stays where something from the used flags on changed
+module _ {w w′ : List ℕ} {s : SwapRoom} {x e : ℕ} (g : Given w s) (k : Kept x e w′ w) (h : s .used ≤ x) where
+  pub owners-same : ownersAt w′ (s .level) ≡ ownersAt w (s .level)
+  owners-same = owners-kept (g .ready) k h
+
+  pub rows-same : rowsAt w′ (s .level) ≡ rowsAt w (s .level)
+  rows-same = rows-kept (g .ready) k (omega (arith, g .ready .laid .owners-in))
+
+  pub given-kept : Given w′ s
+  given-kept = given-after x e g k (omega (arith, g .ready .laid .owners-in)) (λ v m. rw owners-same (g .ranked v m))
+
+pub positive : (n : ℕ) → (n ≡ 0 → ⊥) → 0 < n
+positive zero f = absurd (f refl)
+positive (suc n) f = omega arith
+
+-- ---- one vertex
+
+module _ {w₀ : List ℕ} {s : SwapRoom} {a v : ℕ} (g : Given w₀ s) (h : v < s .level .vertices) (av : a ≡ at (ownersAt w₀ (s .level)) v) where
+  abbrev os : List ℕ
+  os = ownersAt w₀ (s .level)
+
+  abbrev ns : List ℕ
+  ns = neighborsAt w₀ (s .level)
+
+  abbrev to : ℕ
+  to = at (offsetsAt w₀ (s .level)) (v + 1)
+
+  abbrev count : ℕ → ℕ
+  count b = linksTo (rowsAt w₀ (s .level)) os v b
+
+  is-a : eqb (at os v) a ≡ true
+  is-a = eq-eqb (at os v) a (sym av)
+
+  a-in : a < s .limits .ranks
+  a-in = rw av (g .ranked v h)
+
+  pub offering-start
+      : Tallied w₀ (s .level) (s .tallies) (s .limits .ranks) v → Offering w₀ w₀ s a v (at (offsetsAt w₀ (s .level)) v) to
+  offering-start t = record {
+    kept = kept-refl (s .tallies) (length w₀) w₀;
+    home = t a a-in;
+    others = λ c b p q d. refl;
+    each = λ b p d. inl (record {
+      tallied = t b p;
+      unmet = ap (λ (us : List ℕ). linksIn us os b) (sym (row-part (g .ready) v h));
+      same = refl;
+    });
+  }
+
+  -- an entry less: rank b waits on if another owns it
+  module _ {w : List ℕ} {i : ℕ} (o : Offering w₀ w s a v i to) (l : i < to) (c : ℕ) (ec : c ≡ at os (at ns i)) where
+    passed : (b : ℕ) → (c ≡ b → ⊥) → linksIn (part ns (i + 1) to) os b ≡ linksIn (part ns i to) os b
+    passed b d =
+        let n = links-cons ns os i to b l (omega (arith, row-ends (g .ready) v h, neighbors-all (g .ready))) in
+        let z : tally (eqb (at os (at ns i)) b) ≡ 0 = ap tally (ne-eqb (at os (at ns i)) b (λ q. d (ec ∙ q))) in
+        omega arith
+
+    waits-on : (b : ℕ) → (c ≡ b → ⊥) → Waiting w₀ w s a b v i to ⊎ Met w₀ w s a b v → Waiting w₀ w s a b v (i + 1) to ⊎ Met w₀ w s a b v
+    waits-on b d = ⊎-elim
+        (λ (x : Waiting w₀ w s a b v i to). inl (record { tallied = x .tallied; unmet = passed b d ∙ x .unmet; same = x .same }))
+        (λ (x : Met w₀ w s a b v). inr x)
+
+    -- it is a's own
+    pub offering-own : c ≡ a → Offering w₀ w s a v (i + 1) to
+    offering-own e = record {
+      kept = o .kept;
+      home = o .home;
+      others = o .others;
+      each = λ b p d. waits-on b (λ q. d (sym q ∙ e)) (o .each b p d);
+    }
+
+    -- its owner was met before
+    pub offering-met : (c ≡ a → ⊥) → at w (s .tallies + c) ≡ 0 → Offering w₀ w s a v (i + 1) to
+    offering-met f z = record {
+      kept = o .kept;
+      home = o .home;
+      others = o .others;
+      each = λ b p d. split (eqb c b)
+          (λ q.
+          let e : c ≡ b = eqb-true c b q in
+          let y : at w (s .tallies + b) ≡ 0 = rw (← e) z in
+          ⊎-elim
+          (λ (x : Waiting w₀ w s a b v i to).
+          let n : ltb 0 (count b) ≡ false = le-ltb 0 (count b) (omega (arith, x .tallied)) in
+          inr (record { cleared = y; offered = x .same ∙ sym (offer-none 8 (rowsAt w₀ (s .level)) os a b (listAt w₀ s a b) v n) }))
+          (λ (x : Met w₀ w s a b v). inr x)
+          (o .each b p d))
+          (λ q. waits-on b (eqb-false c b q) (o .each b p d));
+    }
+
+    -- its owner is met now
+    pub offering-new
+        : (c ≡ a → ⊥)
+        → c < s .limits .ranks
+        → (t m : ℕ)
+        → t ≡ at w (s .tallies + c)
+        → (t ≡ 0 → ⊥)
+        → m ≡ at w (s .tallies + a)
+        → (w₁ w₂ : List ℕ)
+        → w₁ ≡ set w (s .tallies + c) 0
+        → Offered w₁ w₂ (listPlace s a c) (candidate t m v)
+        → Offering w₀ w₂ s a v (i + 1) to
+    offering-new f cr t m et nz em w₁ w₂ e₁ d =
+        let k = s .limits .ranks in
+        let len : length w ≡ length w₀ = o .kept .same-length in
+        let room : s .lists + 24 * (k * k) ≤ length w₀ = g .lists-in in
+        let tin : s .tallies + k ≤ s .lists = g .tallies-in in
+        let kept₁ : Kept (s .tallies) (s .lists) w₁ w =
+            rw e₁ (kept-set (s .tallies) (s .lists) w w (s .tallies + c) 0 (kept-refl (s .tallies) (s .lists) w) (omega arith) (omega arith)) in
+        let q : a * k + c < k * k = pair-below a c k a-in cr in
+        let l₁ = kept₁ .same-length in
+        let tallies₂ : (b : ℕ) → b < k → at w₂ (s .tallies + b) ≡ at w₁ (s .tallies + b) = λ b p. d .kept .below (s .tallies + b) (omega arith) in
+        let other₁ : (b : ℕ) → (c ≡ b → ⊥) → at w₁ (s .tallies + b) ≡ at w (s .tallies + b) =
+            λ b p. ap (λ (z : List ℕ). at z (s .tallies + b)) e₁ ∙ getD-set-other w (s .tallies + c) (s .tallies + b) 0 0 (λ z. p (omega arith)) in
+        let zero₁ : at w₁ (s .tallies + c) ≡ 0 =
+            ap (λ (z : List ℕ). at z (s .tallies + c)) e₁ ∙ getD-set-same w (s .tallies + c) 0 0 (omega arith) in
+        let list₁ : (x y : ℕ) → listAt w₁ s x y ≡ listAt w s x y = λ x y. list-kept s kept₁ (omega arith) x y in
+        let list₂ : (x y : ℕ) → y < k → ((x ≡ a) × (y ≡ c) → ⊥) → listAt w₂ s x y ≡ listAt w s x y =
+            λ x y p r. list-other s a c (d .kept) x y cr p r ∙ list₁ x y in
+        record {
+          kept = kept-trans (s .tallies) (length w₀) w₂ w₁ w₀
+              (kept-wide (listPlace s a c) (listPlace s a c + 24) (s .tallies) (length w₀) w₂ w₁ (omega arith) (omega arith) (d .kept))
+              (kept-trans (s .tallies) (length w₀) w₁ w w₀ (kept-wide (s .tallies) (s .lists) (s .tallies) (length w₀) w₁ w (omega arith) (omega arith) kept₁) (o .kept));
+          home = tallies₂ a a-in ∙ other₁ a f ∙ o .home;
+          others = λ x y p r n. list₂ x y r (λ z. n (z .0)) ∙ o .others x y p r n;
+          each = λ b p n. split (eqb c b)
+              (λ r.
+              let e : c ≡ b = eqb-true c b r in
+              ⊎-elim
+              (λ (x : Waiting w₀ w s a b v i to).
+              let tc : t ≡ count b = et ∙ rw e (x .tallied) in
+              let same : candidate t m v ≡ candidate (count b) (count a) v = rw (tc, em ∙ o .home) in
+              let yes : ltb 0 (count b) ≡ true = lt-ltb 0 (count b) (positive (count b) (λ z. nz (tc ∙ z))) in
+              inr (record {
+                cleared = rw (← e) (tallies₂ c cr ∙ zero₁);
+                offered =
+                    ap (listAt w₂ s a) (sym e)
+                    ∙ d .here
+                    ∙ ap (λ (z : List Candidate). take 8 (insert ahead (candidate t m v) z)) (list₁ a c ∙ ap (listAt w s a) e ∙ x .same)
+                    ∙ ap (λ (z : Candidate). take 8 (insert ahead z (listAt w₀ s a b))) same
+                    ∙ sym (offer-some 8 (rowsAt w₀ (s .level)) os a b (listAt w₀ s a b) v is-a yes);
+              }))
+              (λ (x : Met w₀ w s a b v). absurd (nz (et ∙ rw e (x .cleared))))
+              (o .each b p n))
+              (λ r.
+              let ne = eqb-false c b r in
+              ⊎-elim
+              (λ (x : Waiting w₀ w s a b v i to). inl (record {
+                tallied = tallies₂ b p ∙ other₁ b ne ∙ x .tallied;
+                unmet = passed b ne ∙ x .unmet;
+                same = list₂ a b p (λ z. ne (sym (z .1))) ∙ x .same;
+              }))
+              (λ (x : Met w₀ w s a b v). inr (record {
+                cleared = tallies₂ b p ∙ other₁ b ne ∙ x .cleared;
+                offered = list₂ a b p (λ z. ne (sym (z .1))) ∙ x .offered;
+              }))
+              (o .each b p n));
+        }
+
+  -- when all entries are passed, each rank was met
+  pub offering-end : {w : List ℕ} → Offering w₀ w s a v to to → (b : ℕ) → b < s .limits .ranks → (b ≡ a → ⊥) → Met w₀ w s a b v
+  offering-end {w} o b p d = ⊎-elim
+      (λ (x : Waiting w₀ w s a b v to to).
+      let z : count b ≡ 0 = sym (x .unmet) ∙ links-none ns os to b in
+      let n : ltb 0 (count b) ≡ false = le-ltb 0 (count b) (omega arith) in
+      record { cleared = x .tallied ∙ z; offered = x .same ∙ sym (offer-none 8 (rowsAt w₀ (s .level)) os a b (listAt w₀ s a b) v n) })
+      (λ (x : Met w₀ w s a b v). x)
+      (o .each b p d)
+
+-- v's tallies are made, v is offered, and the last tally is cleared
+pub listed
+    : {w : List ℕ} {s : SwapRoom} {v : ℕ}
+    → Given w s
+    → v < s .level .vertices
+    → (a : ℕ)
+    → a ≡ at (ownersAt w (s .level)) v
+    → (w₁ w₂ w₃ : List ℕ)
+    → Kept (s .tallies) (s .tallies + s .limits .ranks) w₁ w
+    → Offering w₁ w₂ s a v (at (offsetsAt w₁ (s .level)) (v + 1)) (at (offsetsAt w₁ (s .level)) (v + 1))
+    → w₃ ≡ set w₂ (s .tallies + a) 0
+    → Listed w w₃ s v
+listed {w} {s} {v} g h a av w₁ w₂ w₃ k₁ o e₃ =
+    let k = s .limits .ranks in
+    let l = s .level in
+    let tin : s .tallies + k ≤ s .lists = g .tallies-in in
+    let lin : s .lists + 24 * (k * k) ≤ length w = g .lists-in in
+    let uin : s .used ≤ s .tallies = omega (arith, g .used-in, g .loads-in) in
+    let g₁ : Given w₁ s = given-kept g k₁ uin in
+    let os : ownersAt w₁ l ≡ ownersAt w l = owners-same g k₁ uin in
+    let rs : rowsAt w₁ l ≡ rowsAt w l = rows-same g k₁ uin in
+    let av₁ : a ≡ at (ownersAt w₁ l) v = av ∙ ap (λ (z : List ℕ). at z v) (sym os) in
+    let ar : a < k = rw av (g .ranked v h) in
+    let n₁ = k₁ .same-length in
+    let n₂ = o .kept .same-length in
+    let k₃ : Kept (s .tallies) (s .lists) w₃ w₂ =
+        rw e₃ (kept-set (s .tallies) (s .lists) w₂ w₂ (s .tallies + a) 0 (kept-refl (s .tallies) (s .lists) w₂) (omega arith) (omega arith)) in
+    record {
+      kept = kept-trans (s .tallies) (length w) w₃ w₂ w
+          (kept-wide (s .tallies) (s .lists) (s .tallies) (length w) w₃ w₂ (omega arith) (omega arith) k₃)
+          (kept-trans (s .tallies) (length w) w₂ w₁ w (kept-wide (s .tallies) (length w₁) (s .tallies) (length w) w₂ w₁ (omega arith) (omega arith) (o .kept))
+          (kept-wide (s .tallies) (s .tallies + k) (s .tallies) (length w) w₁ w (omega arith) (omega arith) k₁));
+      clear = λ r p. split (eqb r a)
+          (λ q. let e : r ≡ a = eqb-true r a q in
+          rw (e₃, e) (getD-set-same w₂ (s .tallies + a) 0 0 (omega arith)))
+          (λ q. let d = eqb-false r a q in
+          rw e₃ (getD-set-other w₂ (s .tallies + a) (s .tallies + r) 0 0 (λ z. d (omega arith)) ∙ offering-end g₁ h av₁ o r p d .cleared));
+      lists = λ x y p q d.
+          list-kept s k₃ (omega arith) x y
+          ∙ split (eqb x a)
+            (λ r. let e : x ≡ a = eqb-true x a r in
+            rw (e, ← rs, ← os, ← list-kept s k₁ tin a y) (offering-end g₁ h av₁ o y q (λ z. d (e ∙ sym z)) .offered))
+            (λ r. let n = eqb-false x a r in
+            o .others x y p q n ∙ list-kept s k₁ tin x y
+            ∙ sym (offer-other 8 (rowsAt w l) (ownersAt w l) x y (listAt w s x y) v (ne-eqb _ _ (λ z. n (sym (av ∙ z))))));
+    }
+
+-- ---- what the code's steps come to
+
+-- a list lent as a part
+pub offered-part
+    : (w ys : List ℕ) (a : ℕ) (x : Candidate)
+    → a + 24 ≤ length w
+    → length ys ≡ a + 24 - a
+    → slots candidate 8 ys ≡ take 8 (insert ahead x (slots candidate 8 (part w a (a + 24))))
+    → Offered w (putBack w a (a + 24) ys) a x
+offered-part w ys a x h n e = record {
+  here = ap (slots candidate 8) (part-putBack w a (a + 24) ys (omega arith) h n) ∙ e;
+  kept = kept-putBack w a (a + 24) ys (omega arith) h n;
+}
+
+-- an entry's owner, before v was offered anywhere
+first-owner
+    : {w w₀ : List ℕ} {s : SwapRoom} {e : ℕ} (c i : ℕ)
+    → Given w₀ s
+    → Kept (s .tallies) e w w₀
+    → c ≡ at (ownersAt w (s .level)) (at (neighborsAt w (s .level)) i)
+    → c ≡ at (ownersAt w₀ (s .level)) (at (neighborsAt w₀ (s .level)) i)
+first-owner c i g k ec =
+    rw (owners-same g k (omega (arith, g .used-in, g .loads-in)), neighbors-kept (g .ready) k (omega (arith, g .used-in, g .loads-in, g .ready .laid .owners-in))) at ec
+
+module _ {w : List ℕ} {s : SwapRoom} {a v i : ℕ} (c : ℕ) (ec : c ≡ at (ownersAt w (s .level)) (at (neighborsAt w (s .level)) i)) where
+  pub entry-own : c ≡ a → OfferedEntry w w s a v i
+  entry-own e = record {
+    kept = kept-refl (s .tallies) (length w) w;
+    turn = λ w₀ g h av l o. offering-own g h av o l c (first-owner c i g (o .kept) ec) e;
+  }
+
+  pub entry-met : (c ≡ a → ⊥) → at w (s .tallies + c) ≡ 0 → OfferedEntry w w s a v i
+  entry-met f z = record {
+    kept = kept-refl (s .tallies) (length w) w;
+    turn = λ w₀ g h av l o. offering-met g h av o l c (first-owner c i g (o .kept) ec) f z;
+  }
+
+  pub entry-new
+      : Given w s
+      → a < s .limits .ranks
+      → c < s .limits .ranks
+      → (c ≡ a → ⊥)
+      → (at w (s .tallies + c) ≡ 0 → ⊥)
+      → (w₂ : List ℕ) (p : ℕ)
+      → p ≡ listPlace s a c
+      → Offered (set w (s .tallies + c) 0) w₂ p (candidate (at w (s .tallies + c)) (at w (s .tallies + a)) v)
+      → OfferedEntry w w₂ s a v i
+  entry-new g ar cr f nz w₂ p ep d =
+      let k = s .limits .ranks in
+      let w₁ = set w (s .tallies + c) 0 in
+      let d′ : Offered w₁ w₂ (listPlace s a c) (candidate (at w (s .tallies + c)) (at w (s .tallies + a)) v) = rw ep at d in
+      let n₁ : length w₁ ≡ length w = length-set w (s .tallies + c) 0 in
+      let q : a * k + c < k * k = pair-below a c k ar cr in
+      let tin : s .tallies + k ≤ s .lists = g .tallies-in in
+      let lin : s .lists + 24 * (k * k) ≤ length w = g .lists-in in
+      record {
+        kept = kept-trans (s .tallies) (length w) w₂ w₁ w
+            (kept-wide (listPlace s a c) (listPlace s a c + 24) (s .tallies) (length w) w₂ w₁ (omega arith) (omega arith) (d′ .kept))
+            (kept-set (s .tallies) (length w) w w (s .tallies + c) 0 (kept-refl (s .tallies) (length w) w) (omega arith) (omega arith));
+        turn = λ w₀ g₀ h av l o.
+            offering-new g₀ h av o l c (first-owner c i g₀ (o .kept) ec) f cr (at w (s .tallies + c)) (at w (s .tallies + a)) refl nz refl w₁ w₂ refl d′;
+      }
+
+-- one more vertex, and all of them
+module _ {w₀ w : List ℕ} {s : SwapRoom} (g : Given w₀ s) (k : Kept (s .tallies) (length w₀) w w₀) where
+  used-below : s .used ≤ s .tallies
+  used-below = omega (arith, g .used-in, g .loads-in)
+
+  pub given-listed : Given w s
+  given-listed = given-kept g k used-below
+
+  pub listed-turn
+      : (v : ℕ) (w′ : List ℕ)
+      → Listed w w′ s v
+      → ((a b : ℕ) → a < s .limits .ranks → b < s .limits .ranks → (a ≡ b → ⊥)
+        → listAt w s a b ≡ listedTo 8 (rowsAt w₀ (s .level)) (ownersAt w₀ (s .level)) a b v)
+      → (a b : ℕ)
+      → a < s .limits .ranks
+      → b < s .limits .ranks
+      → (a ≡ b → ⊥)
+      → listAt w′ s a b ≡ listedTo 8 (rowsAt w₀ (s .level)) (ownersAt w₀ (s .level)) a b (v + 1)
+  listed-turn v w′ d f a b p q n =
+      d .lists a b p q n
+      ∙ rw (rows-same g k used-below, owners-same g k used-below, f a b p q n)
+        (sym (listed-more 8 (rowsAt w₀ (s .level)) (ownersAt w₀ (s .level)) a b v))
+
+  pub listed-end
+      : ((a b : ℕ) → a < s .limits .ranks → b < s .limits .ranks → (a ≡ b → ⊥)
+        → listAt w s a b ≡ listedTo 8 (rowsAt w₀ (s .level)) (ownersAt w₀ (s .level)) a b (s .level .vertices))
+      → Holding w s (ownersAt w₀ (s .level))
+  listed-end f a b p q n =
+      f a b p q n
+      ∙ ap (listedTo 8 (rowsAt w₀ (s .level)) (ownersAt w₀ (s .level)) a b) (sym (rows-all (g .ready)))
+      ∙ listed-all 8 (rowsAt w₀ (s .level)) (ownersAt w₀ (s .level)) a b
+      ∙ ap (λ (z : List (List ℕ)). candidates 8 z (ownersAt w₀ (s .level)) a b) (sym (rows-same g k used-below))

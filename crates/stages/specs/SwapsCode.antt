@@ -1,0 +1,241 @@
+-- What the code of rule 7 keeps in the work slice, and what it promises. Assumes nothing.
+use Prim.Native.Nat.{ℕ, suc, _+_, _-_, _*_, _≤_, _<_, _^_}
+use mathlib.Core.Path.{_≡_}
+use mathlib.Core.Bool.{Bool, not, _&&_, cond}
+use mathlib.Core.List.{List, [], _∷_}
+use mathlib.Core.Logic.{_⊎_}
+use lib.Dec.{ltb, eqb}
+use lib.ListN.{length, take, set}
+use Rattle.links.specs.Lists.{at, insert, foldl, elem, range, concatMap}
+use Rattle.links.specs.Parts.{part, Kept}
+use Rattle.links.specs.Graph.{linksIn, linksTo, load}
+use Rattle.stages.specs.Level.{offsetsAt, neighborsAt, rowsAt, weightsAt, ownersAt, Ready, balanceIn}
+use Rattle.stages.specs.Moves.{Step, move, swap, after}
+use Rattle.stages.specs.Swaps.{Candidate, Proposal, ahead, sooner, propose, proposals, candidates, applies, swapPass, allProposals, refineFinePairSwaps}
+use Rattle.stages.specs.MovesCode.{Ranked, Clear, Loaded}
+use Rattle.stages.specs.Slots.{candidate, slots}
+use Rattle.stages.specs.declared.level.HierarchyLevel.{HierarchyLevel}
+use Rattle.stages.specs.declared.level.Limits.{Limits}
+use Rattle.stages.specs.declared.slots.Member.{Member}
+use Rattle.stages.specs.declared.swaps.SwapRoom.{SwapRoom}
+
+-- ---- where things lie
+
+-- the first number of the list of ranks a and b, and what that list holds
+abbrev pub listPlace : SwapRoom → ℕ → ℕ → ℕ
+listPlace s a b = s .lists + 24 * (a * s .limits .ranks + b)
+
+abbrev pub listAt : List ℕ → SwapRoom → ℕ → ℕ → List Candidate
+listAt w s a b = slots candidate 8 (part w (listPlace s a b) (listPlace s a b + 24))
+
+-- the level's parts, then a used flag for each vertex, a load and a tally for each rank, and the lists; every owner is a rank
+pub record Given (w : List ℕ) (s : SwapRoom) : Type 0 where
+  pub ready : Ready w (s .level) (s .used)
+  pub used-in : s .used + s .level .vertices ≤ s .loads
+  pub loads-in : s .loads + s .limits .ranks ≤ s .tallies
+  pub tallies-in : s .tallies + s .limits .ranks ≤ s .lists
+  pub lists-in : s .lists + 24 * (s .limits .ranks * s .limits .ranks) ≤ length w
+  pub few-ranks : s .limits .ranks ≤ 256
+  pub ranked : Ranked w (s .level) (s .limits .ranks)
+
+-- and the loads are those of the owners
+pub record Standing (w : List ℕ) (s : SwapRoom) : Type 0 where
+  pub given : Given w s
+  pub loaded : Loaded w (s .level) (s .loads) (s .limits .ranks)
+
+-- the used flags are those of the used vertices
+abbrev pub Marked : List ℕ → SwapRoom → List ℕ → Type 0
+Marked w s used = (v : ℕ) → v < s .level .vertices → eqb (at w (s .used + v)) 0 ≡ not (elem v used)
+
+-- ---- listing
+
+-- v's turn to be listed for ranks a and b
+unfoldable pub offerVertex : ℕ → List (List ℕ) → List ℕ → ℕ → ℕ → List Candidate → ℕ → List Candidate
+offerVertex n rows owners a b list v =
+    cond
+    (eqb (at owners v) a && ltb 0 (linksTo rows owners v b))
+    (take n (insert ahead (candidate (linksTo rows owners v b) (linksTo rows owners v a) v) list))
+    list
+
+-- one list is offered a candidate
+pub record Offered (w w′ : List ℕ) (a : ℕ) (x : Candidate) : Type 0 where
+  pub here : slots candidate 8 (part w′ a (a + 24)) ≡ take 8 (insert ahead x (slots candidate 8 (part w a (a + 24))))
+  pub kept : Kept a (a + 24) w′ w
+
+-- rank b is still to be met among v's neighbors, of which those from i up to e are left; or v was offered to it
+pub record Waiting (w₀ w : List ℕ) (s : SwapRoom) (a b v i e : ℕ) : Type 0 where
+  pub tallied : at w (s .tallies + b) ≡ linksTo (rowsAt w₀ (s .level)) (ownersAt w₀ (s .level)) v b
+  pub unmet : linksIn (part (neighborsAt w₀ (s .level)) i e) (ownersAt w₀ (s .level)) b ≡ linksTo (rowsAt w₀ (s .level)) (ownersAt w₀ (s .level)) v b
+  pub same : listAt w s a b ≡ listAt w₀ s a b
+
+pub record Met (w₀ w : List ℕ) (s : SwapRoom) (a b v : ℕ) : Type 0 where
+  pub cleared : at w (s .tallies + b) ≡ 0
+  pub offered : listAt w s a b ≡ offerVertex 8 (rowsAt w₀ (s .level)) (ownersAt w₀ (s .level)) a b (listAt w₀ s a b) v
+
+pub record Offering (w₀ w : List ℕ) (s : SwapRoom) (a v i e : ℕ) : Type 0 where
+  pub kept : Kept (s .tallies) (length w₀) w w₀
+  pub home : at w (s .tallies + a) ≡ linksTo (rowsAt w₀ (s .level)) (ownersAt w₀ (s .level)) v a
+  pub others : (c b : ℕ) → c < s .limits .ranks → b < s .limits .ranks → (c ≡ a → ⊥) → listAt w s c b ≡ listAt w₀ s c b
+  pub each : (b : ℕ) → b < s .limits .ranks → (b ≡ a → ⊥) → Waiting w₀ w s a b v i e ⊎ Met w₀ w s a b v
+
+-- entry i of the neighbors had its turn
+pub record OfferedEntry (w w′ : List ℕ) (s : SwapRoom) (a v i : ℕ) : Type 0 where
+  pub kept : Kept (s .tallies) (length w) w′ w
+  pub turn
+      : (w₀ : List ℕ)
+      → Given w₀ s
+      → v < s .level .vertices
+      → a ≡ at (ownersAt w₀ (s .level)) v
+      → i < at (offsetsAt w₀ (s .level)) (v + 1)
+      → Offering w₀ w s a v i (at (offsetsAt w₀ (s .level)) (v + 1))
+      → Offering w₀ w′ s a v (i + 1) (at (offsetsAt w₀ (s .level)) (v + 1))
+
+-- v was listed
+pub record Listed (w w′ : List ℕ) (s : SwapRoom) (v : ℕ) : Type 0 where
+  pub kept : Kept (s .tallies) (length w) w′ w
+  pub clear : Clear w′ (s .tallies) (s .limits .ranks)
+  pub lists
+      : (a b : ℕ)
+      → a < s .limits .ranks
+      → b < s .limits .ranks
+      → (a ≡ b → ⊥)
+      → listAt w′ s a b ≡ offerVertex 8 (rowsAt w (s .level)) (ownersAt w (s .level)) a b (listAt w s a b) v
+
+-- no list holds a candidate
+abbrev pub Empty : List ℕ → SwapRoom → Type 0
+Empty w s = (a b : ℕ) → a < s .limits .ranks → b < s .limits .ranks → listAt w s a b ≡ []
+
+-- the lists are those of these owners
+abbrev pub Holding : List ℕ → SwapRoom → List ℕ → Type 0
+Holding w s owners =
+    (a b : ℕ)
+    → a < s .limits .ranks
+    → b < s .limits .ranks
+    → (a ≡ b → ⊥)
+    → listAt w s a b ≡ candidates 8 (rowsAt w (s .level)) owners a b
+
+-- all vertices were listed
+pub record ListedAll (w w′ : List ℕ) (s : SwapRoom) : Type 0 where
+  pub kept : Kept (s .tallies) (length w) w′ w
+  pub clear : Clear w′ (s .tallies) (s .limits .ranks)
+  pub holding : Holding w′ s (ownersAt w (s .level))
+
+-- ---- proposals
+
+-- a product joins the first n proposals if its net is above 0
+unfoldable pub proposed : ℕ → List (List ℕ) → Candidate → List Proposal → Candidate → List Proposal
+proposed n rows x ps y = cond (ltb 0 (propose rows x y .net)) (take n (insert sooner (propose rows x y) ps)) ps
+
+-- a candidate, as the code holds it
+abbrev pub candidateOf : Member → Candidate
+candidateOf x = candidate (x .there) (x .home) (x .vertex)
+
+-- numbers that a product can be made of: they add up below 2^32, and the vertex is one of n
+pub record Fair (n : ℕ) (x : Candidate) : Type 0 where
+  pub there-few : x .there ≤ 131072
+  pub home-few : x .home ≤ 131072
+  pub vertex-in : x .vertex < n
+
+pub record Named (n : ℕ) (p : Proposal) : Type 0 where
+  pub first-in : p .first < n
+  pub second-in : p .second < n
+
+-- the lists at x and at y are those of ranks a and b, and of b and a
+pub record Facing (w : List ℕ) (s : SwapRoom) (x y : ℕ) (owners : List ℕ) (a b : ℕ) : Type 0 where
+  pub fore-in : x + 24 ≤ length w
+  pub back-in : y + 24 ≤ length w
+  pub fore : slots candidate 8 (part w x (x + 24)) ≡ candidates 8 (rowsAt w (s .level)) owners a b
+  pub back : slots candidate 8 (part w y (y + 24)) ≡ candidates 8 (rowsAt w (s .level)) owners b a
+
+-- ---- swaps
+
+-- those that a step uses are used
+abbrev pub usedBy : List ℕ → Step → List ℕ
+usedBy used (move v r) = used
+usedBy used (swap u v) = u ∷ v ∷ used
+
+-- u and v change places, and are used
+unfoldable pub changed : List ℕ → SwapRoom → ℕ → ℕ → List ℕ
+changed w s u v =
+    let o = s .level .owners in
+    set (set (set (set w (o + u) (at w (o + v))) (o + v) (at w (o + u))) (s .used + u) 1) (s .used + v) 1
+
+-- rank a's load gives x for y, and rank b's y for x
+unfoldable pub traded : List ℕ → ℕ → ℕ → ℕ → ℕ → ℕ → List ℕ
+traded w loads a b x y =
+    let w₁ = set w (loads + a) (at w (loads + a) - x + y) in
+    set w₁ (loads + b) (at w₁ (loads + b) - y + x)
+
+-- loads from which x and y can be taken, and to which the other can be added
+pub record Tradable (w : List ℕ) (loads a b x y : ℕ) : Type 0 where
+  pub first-in : loads + a < length w
+  pub second-in : loads + b < length w
+  pub gives : x ≤ at w (loads + a)
+  pub takes : y ≤ at w (loads + b)
+  pub first-light : at w (loads + a) < 2 ^ 31
+  pub second-light : at w (loads + b) < 2 ^ 31
+
+-- u and v have changed places
+pub record Swapped (w w′ : List ℕ) (s : SwapRoom) (u v : ℕ) : Type 0 where
+  pub standing : Standing w′ s
+  pub kept : Kept (s .level .owners) (s .tallies) w′ w
+  pub owners-are : ownersAt w′ (s .level) ≡ after (ownersAt w (s .level)) (swap u v)
+  pub marked : (used : List ℕ) → Marked w s used → Marked w′ s (u ∷ v ∷ used)
+
+-- after some steps
+pub record Done (w w′ : List ℕ) (s : SwapRoom) (used : List ℕ) (number : ℕ) (steps : List Step) : Type 0 where
+  pub counted : number ≡ length steps
+  pub owners-are : ownersAt w′ (s .level) ≡ foldl after (ownersAt w (s .level)) steps
+  pub marked : Marked w′ s (foldl usedBy used steps)
+
+-- proposals were taken in their order: the number of swaps
+pub record Taken (w w′ : List ℕ) (s : SwapRoom) (number : ℕ) (ps : List Proposal) : Type 0 where
+  pub standing : Standing w′ s
+  pub kept : Kept (s .level .owners) (s .tallies) w′ w
+  pub done
+      : (used : List ℕ)
+      → Marked w s used
+      → Done w w′ s used number
+      (swapPass (balanceIn (s .limits)) (rowsAt w (s .level)) (weightsAt w (s .level)) ps used (ownersAt w (s .level)))
+
+-- the proposals of ranks a and b up to c, and those of all ranks below c, from given owners
+abbrev pub rankProposals : List (List ℕ) → List ℕ → ℕ → ℕ → List Proposal
+rankProposals rows owners a c = concatMap (proposals 8 rows owners a) (range (suc a) (c - suc a))
+
+abbrev pub ranksProposals : List (List ℕ) → List ℕ → ℕ → ℕ → List Proposal
+ranksProposals rows owners k c = concatMap (λ a. rankProposals rows owners a k) (range 0 c)
+
+-- a pass from given owners
+abbrev pub passFrom : List ℕ → SwapRoom → List ℕ → List Step
+passFrom w s owners =
+    swapPass (balanceIn (s .limits)) (rowsAt w (s .level)) (weightsAt w (s .level)) (allProposals 8 (rowsAt w (s .level)) (s .limits .ranks) owners) []
+    owners
+
+-- these steps were made, so many
+pub record Stepped (w w′ : List ℕ) (s : SwapRoom) (steps : List Step) (count : ℕ) : Type 0 where
+  pub owners-are : ownersAt w′ (s .level) ≡ foldl after (ownersAt w (s .level)) steps
+  pub counted : count ≡ length steps
+  pub standing : Standing w′ s
+  pub clear : Clear w′ (s .tallies) (s .limits .ranks)
+  pub kept : Kept (s .level .owners) (length w) w′ w
+
+-- ---- the stage
+
+-- the steps that rule 7 makes of a level's owners, with 8 candidates a list
+abbrev pub swapsAt : List ℕ → HierarchyLevel → Limits → ℕ → List Step
+swapsAt w l limits passes = refineFinePairSwaps (balanceIn limits) (rowsAt w l) (weightsAt w l) 8 passes (ownersAt w l) .steps
+
+-- a level whose owners are ranks; from scratch on room for a flag for each vertex and two numbers for each rank; and room for the lists
+pub record Swappable (w : List ℕ) (l : HierarchyLevel) (scratch lists ranks : ℕ) : Type 0 where
+  pub ready : Ready w l scratch
+  pub room : scratch + l .vertices + 2 * ranks ≤ lists
+  pub lists-in : lists + 24 * (ranks * ranks) ≤ length w
+  pub few : ranks ≤ 256
+  pub ranked : Ranked w l ranks
+
+pub record RefinedBySwaps (w w′ : List ℕ) (l : HierarchyLevel) (scratch : ℕ) (limits : Limits) (passes r : ℕ) : Type 0 where
+  pub owners : ownersAt w′ l ≡ foldl after (ownersAt w l) (swapsAt w l limits passes)
+  pub number : r ≡ length (swapsAt w l limits passes)
+  pub ready : Ready w′ l scratch
+  pub ranked : Ranked w′ l (limits .ranks)
+  pub kept : Kept (l .owners) (length w) w′ w
