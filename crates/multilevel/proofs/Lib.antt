@@ -16,3 +16,5 @@ pub mod PlaceLaws
 pub mod DescentLaws
 pub mod CallLaws
 pub mod MeasureLaws
+pub mod GrowLaws
+pub mod DescentCodeLaws

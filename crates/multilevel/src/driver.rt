@@ -3,17 +3,24 @@ ghost use mathlib.Core.Path.{_≡_};
 ghost use Prim.Native.Nat.{_≤_};
 ghost use Rattle.multilevel.specs.Causes.{Limited};
 ghost use Rattle.multilevel.specs.Division.{swapPasses};
-ghost use Rattle.multilevel.specs.DriverCode.{Refining, LevelRefined, rulesWith};
+ghost use Rattle.multilevel.specs.DriverCode.{Placed, Refining, LevelRefined, LevelGrown, LevelSolved, rulesWith};
 use links::AbtmMultilevelOptions;
 use links::AbtmMultilevelStats;
 use links::index;
 use links::load_cap;
 use links::minimum_load;
 use links::saturating_mul;
+use stages::Coarsened;
+use stages::Grown;
 use stages::HierarchyLevel;
 use stages::Limits;
 use stages::Refined;
+use stages::coarsen_once_cached;
 use stages::refine_by_cut;
+use stages::weighted_multisource_partition;
+use crate::room::moved_up;
+use crate::room::sized;
+use crate::takeover::take_over;
 
 // What a division answers: its stats, or the refusal's number.
 pub enum Answer {
@@ -71,4 +78,50 @@ fn swap_passes(passes: u64) -> u64
     ensures { λ r. ⌜ r ≡ swapPasses passes ⌝ }
 {
     saturating_mul(4, passes)
+}
+
+// Growth on the coarsest level, and its moves.
+fn grow_level(work: &mut [u32], q: Rules, l: HierarchyLevel) -> Answer
+    requires { ⌜ Placed (now work) l q 0 ⌝ }
+    ensures { λ a. ⌜ LevelGrown (now (work .entry)) (now (work .exit)) l q a ⌝ }
+{
+    let scratch = q.scratch;
+    let limits = q.limits;
+    let ranks = limits.ranks;
+    let cap = limits.cap;
+    let n = l.vertices;
+    let g = weighted_multisource_partition(work, l, scratch, ranks, cap);
+    match g {
+        Grown::Owned(restarts) => refine_level(work, q, l, AbtmMultilevelStats::zero().grown(n as u64, restarts)),
+        Grown::Refused(number) => Answer::Refused(number),
+    }
+}
+
+// A level gets its owners: from the coarser level, if a coarsening step is kept, else by growth; then its moves. `left` more levels may be made.
+fn solve(work: &mut [u32], q: Rules, left: usize, l: HierarchyLevel) -> Answer
+    requires { ⌜ Placed (now work) l q left × (left ≤ 32) ⌝ }
+    ensures { λ a. ⌜ LevelSolved (now (work .entry)) (now (work .exit)) l q left a ⌝ }
+{
+    if left == 0 {
+        return grow_level(work, q, l);
+    }
+    let n = l.vertices;
+    let stop = q.stop;
+    if n as u64 <= stop {
+        return grow_level(work, q, l);
+    }
+    let unit = q.unit;
+    let scratch = q.scratch;
+    let next = moved_up(l, unit);
+    let step = coarsen_once_cached(work, l, next, scratch);
+    let Coarsened::Smaller { groups, entries, pairs, singletons } = step else {
+        return grow_level(work, q, l);
+    };
+    let coarse = sized(next, groups, entries);
+    let a = solve(work, q, left - 1, coarse);
+    let Answer::Divided(s) = a else {
+        return a;
+    };
+    take_over(work, l, coarse);
+    refine_level(work, q, l, s.added_pairs(pairs as u64, singletons as u64))
 }
