@@ -92,7 +92,7 @@ module _ (c : Call) (w : List ℕ) (d : Divisible c w) where
     rows-laid : rowsAt w₁ (siteLevel c) ≡ siteRows c
     rows-laid = rw (s .offsets-laid, s .neighbors-laid)
 
-    weights-laid : weightsAt w₁ (siteLevel c) ≡ finestWeights (siteRows c)
+    pub weights-laid : weightsAt w₁ (siteLevel c) ≡ finestWeights (siteRows c)
     weights-laid = s .weights-laid ∙ ap (λ (x : ℕ). replicate x 1) (sym (length-rows (c .offsets) (c .neighbors)))
 
     pub site-placed : Placed w₁ (siteLevel c) (rulesFor c) (c .options .«max_levels»)

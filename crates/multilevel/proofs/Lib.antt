@@ -18,3 +18,4 @@ pub mod CallLaws
 pub mod MeasureLaws
 pub mod GrowLaws
 pub mod DescentCodeLaws
+pub mod EndLaws

@@ -3,21 +3,24 @@ use Prim.Native.Nat.{ℕ, _+_, _*_, _≤_, _<_}
 use mathlib.Core.Path.{_≡_}
 use mathlib.Core.List.{List, []}
 use lib.ListN.{length}
+use Rattle.links.specs.Lists.{foldl}
 use Rattle.links.specs.Parts.{Kept}
 use Rattle.links.specs.Loads.{loadCap, minimumLoad}
-use Rattle.links.specs.Graph.{vertexCount}
+use Rattle.links.specs.Graph.{vertexCount, cutEntries, volume}
 use Rattle.links.specs.Owners.{fromOwners}
-use Rattle.links.specs.Options.{stopSize, addedMoves}
+use Rattle.links.specs.Options.{stopSize, addedMoves, measuredStats}
 use Rattle.links.specs.declared.options.AbtmMultilevelOptions.{AbtmMultilevelOptions}
 use Rattle.links.specs.declared.options.AbtmMultilevelStats.{AbtmMultilevelStats}
 use Rattle.stages.specs.Level.{rowsAt, weightsAt, ownersAt, Ready, balanceIn}
 use Rattle.stages.specs.Coarsen.{Coarse}
+use Rattle.stages.specs.Moves.{after}
 use Rattle.stages.specs.MovesCode.{Ranked}
+use Rattle.stages.specs.SwapsCode.{swapsAt}
 use Rattle.stages.specs.declared.level.HierarchyLevel.{HierarchyLevel}
 use Rattle.multilevel.specs.declared.driver.Answer.{Answer}
 use Rattle.multilevel.specs.declared.driver.Rules.{Rules}
 use Rattle.multilevel.specs.Causes.{Call, needOf, earlyCause}
-use Rattle.multilevel.specs.Division.{coarsenings, division}
+use Rattle.multilevel.specs.Division.{coarsenings, swapPasses, division}
 use Rattle.multilevel.specs.Room.{unitOf, levelAt}
 use Rattle.multilevel.specs.Contract.{answerOf, ownersAfter}
 use Rattle.multilevel.specs.Driver.{movesFrom, movedFrom, answerFor, Told}
@@ -85,3 +88,24 @@ pub record Divisible (c : Call) (w : List ℕ) : Type 0 where
 pub record SiteDivided (c : Call) (owners owners′ : List ℕ) (a : Answer) : Type 0 where
   pub answer-is : a ≡ answerOf (division c .outcome)
   pub owners-are : owners′ ≡ ownersAfter (division c .outcome) owners
+
+-- ---- the finest level's end
+
+-- a level with owners, the stages' own room, and the lists of candidates beyond it
+pub record Finishing (w : List ℕ) (l : HierarchyLevel) (q : Rules) (lists : ℕ) : Type 0 where
+  pub ready : Ready w l (q .scratch)
+  pub room : q .scratch + l .vertices + 2 * q .limits .ranks ≤ lists
+  pub lists-in : lists + 24 * (q .limits .ranks * q .limits .ranks) ≤ length w
+  pub few-ranks : q .limits .ranks ≤ 256
+  pub ranked : Ranked w l (q .limits .ranks)
+
+-- its swaps are made, and it is measured
+pub record LevelFinished (w w′ : List ℕ) (l : HierarchyLevel) (q : Rules) (s r : AbtmMultilevelStats) : Type 0 where
+  pub owners-are : ownersAt w′ l ≡ foldl after (ownersAt w l) (swapsAt w l (q .limits) (swapPasses (q .passes)))
+  pub few : length (swapsAt w l (q .limits) (swapPasses (q .passes))) ≤ 131072
+  pub stats-are
+      : r
+      ≡ measuredStats (addedMoves s (length (swapsAt w l (q .limits) (swapPasses (q .passes)))))
+      (cutEntries (rowsAt w l) (ownersAt w′ l))
+      (volume (rowsAt w l) (ownersAt w′ l) (q .limits .ranks))
+  pub same-length : length w′ ≡ length w

@@ -1,15 +1,19 @@
 // Rule 8: the driver.
 ghost use mathlib.Core.Path.{_≡_};
 ghost use Prim.Native.Nat.{_≤_};
-ghost use Rattle.multilevel.specs.Causes.{Limited};
+ghost use lib.ListN.{length};
+ghost use Rattle.multilevel.specs.Causes.{Limited, callOf};
+ghost use Rattle.multilevel.specs.Contract.{Partitioned};
 ghost use Rattle.multilevel.specs.Division.{swapPasses};
-ghost use Rattle.multilevel.specs.DriverCode.{Placed, Refining, LevelRefined, LevelGrown, LevelSolved, rulesWith};
+ghost use Rattle.multilevel.specs.DriverCode.{Placed, Refining, LevelRefined, LevelGrown, LevelSolved, Finishing, LevelFinished, Divisible, SiteDivided, rulesWith};
 use links::AbtmMultilevelOptions;
 use links::AbtmMultilevelStats;
+use links::fill_part;
 use links::index;
 use links::load_cap;
 use links::minimum_load;
 use links::saturating_mul;
+use links::vertex_count;
 use stages::Coarsened;
 use stages::Grown;
 use stages::HierarchyLevel;
@@ -17,10 +21,17 @@ use stages::Limits;
 use stages::Refined;
 use stages::coarsen_once_cached;
 use stages::refine_by_cut;
+use stages::refine_fine_pair_swaps;
 use stages::weighted_multisource_partition;
+use crate::causes::early_cause;
+use crate::causes::work_need;
+use crate::lay::lay_site;
+use crate::measure::measure_level;
+use crate::room::level_at;
 use crate::room::moved_up;
 use crate::room::sized;
 use crate::takeover::take_over;
+use crate::writeback::write_owners;
 
 // What a division answers: its stats, or the refusal's number.
 pub enum Answer {
@@ -124,4 +135,54 @@ fn solve(work: &mut [u32], q: Rules, left: usize, l: HierarchyLevel) -> Answer
     };
     take_over(work, l, coarse);
     refine_level(work, q, l, s.added_pairs(pairs as u64, singletons as u64))
+}
+
+// The finest level's swaps and its measures: the stats of the division.
+fn finish(work: &mut [u32], q: Rules, l: HierarchyLevel, lists: usize, s: AbtmMultilevelStats) -> AbtmMultilevelStats
+    requires { ⌜ Finishing (now work) l q lists ⌝ }
+    ensures { λ r. ⌜ LevelFinished (now (work .entry)) (now (work .exit)) l q s r ⌝ }
+{
+    let scratch = q.scratch;
+    let limits = q.limits;
+    let ranks = limits.ranks;
+    let swaps = refine_fine_pair_swaps(work, l, scratch, lists, limits, swap_passes(q.passes));
+    let m = measure_level(work, l, scratch, ranks);
+    s.added_moves(swaps).measured(m.cut, m.volume)
+}
+
+// The division of a site that passed the early tests, on a work slice of just the length that it needs.
+fn divide(offsets: &[u32], neighbors: &[u32], ranks: u32, options: AbtmMultilevelOptions, owners: &mut [u32], work: &mut [u32]) -> Answer
+    requires { ⌜ Divisible (callOf (now offsets) (now neighbors) ranks options (length (now owners)) (length (now work))) (now work) ⌝ }
+    ensures { λ a. ⌜ SiteDivided (callOf (now (offsets .entry)) (now (neighbors .entry)) ranks options (length (now (owners .entry))) (length (now (work .entry)))) (now (owners .entry)) (now (owners .exit)) a ⌝ }
+{
+    let n = vertex_count(offsets);
+    let m = neighbors.len();
+    let q = rules_of(n, m, ranks, options);
+    let l = level_at(n, m, 0);
+    let levels = options.max_levels as usize;
+    lay_site(work, l, offsets, neighbors);
+    let a = solve(work, q, levels, l);
+    let Answer::Divided(s) = a else {
+        return a;
+    };
+    let lists = q.scratch + 5 * q.unit;
+    let t = finish(work, q, l, lists, s);
+    write_owners(owners, &work[..], l);
+    Answer::Divided(t)
+}
+
+// Rule 8: the whole division. 1 to 5 touch nothing; past 5 the needed work numbers are zero at exit; owners are written only on success.
+// Rules out: moves and swaps only feigned; moves or restarts invented; rank 0 for all; owners never written; every site refused.
+pub fn abtm_multilevel_partition(offsets: &[u32], neighbors: &[u32], ranks: u32, options: AbtmMultilevelOptions, owners: &mut [u32], work: &mut [u32]) -> Answer
+    ensures { λ a. ⌜ Partitioned (callOf (now (offsets .entry)) (now (neighbors .entry)) ranks options (length (now (owners .entry))) (length (now (work .entry)))) (now (owners .entry)) (now (owners .exit)) (now (work .entry)) (now (work .exit)) a ⌝ }
+{
+    let cause = early_cause(offsets, neighbors, ranks, options, owners.len(), work.len());
+    if cause != 0 {
+        return Answer::Refused(cause);
+    }
+    let levels = options.max_levels as usize;
+    let need = work_need(vertex_count(offsets), neighbors.len(), index(ranks), levels);
+    let a = divide(offsets, neighbors, ranks, options, owners, &mut work[0..need]);
+    fill_part(work, 0, need, 0);
+    a
 }

@@ -12,6 +12,7 @@ mod writeback;
 pub use causes::early_cause;
 pub use causes::work_need;
 pub use driver::Answer;
+pub use driver::abtm_multilevel_partition;
 pub use file::Read;
 pub use file::Sizes;
 pub use file::link_file_cause;
