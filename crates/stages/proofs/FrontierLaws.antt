@@ -66,7 +66,7 @@ module _ (free fit : ℕ → Bool) where
 -- ---- loads
 
 -- they only grow
-pub load-more : (ws os : List ℕ) (g r d : ℕ) → at os g ≡ unassigned → d ≢ unassigned → load ws os d ≤ load ws (set os g r) d
+load-more : (ws os : List ℕ) (g r d : ℕ) → at os g ≡ unassigned → d ≢ unassigned → load ws os d ≤ load ws (set os g r) d
 unfolding load
 load-more [] os g r d e h = omega arith
 load-more (w ∷ ws) [] g r d e h = omega arith
@@ -98,7 +98,7 @@ load-sum (w ∷ ws) (o ∷ os) r = split (eqb o r) (λ p. rw p (omega (arith, lo
 -- ---- what is open
 
 -- what was owned stays so
-pub unowned-before : (os : List ℕ) (g r x : ℕ) → r ≢ unassigned → unowned (set os g r) x ≡ true → unowned os x ≡ true
+unowned-before : (os : List ℕ) (g r x : ℕ) → r ≢ unassigned → unowned (set os g r) x ≡ true → unowned os x ≡ true
 unowned-before os g r x h e = split (eqb x g)
     (λ p. let q : x ≡ g = eqb-true x g p in
     split (leb (suc g) (length os))

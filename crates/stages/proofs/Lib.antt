@@ -15,4 +15,5 @@ pub mod GrowthTurnLaws
 pub mod GrowthSliceLaws
 pub mod GrowthRoundLaws
 pub mod GrowthStartLaws
+pub mod ReadyLaws
 pub mod GrowthStageLaws

@@ -20,7 +20,7 @@ use Rattle.stages.specs.Level.{Ready, offsetsAt, neighborsAt, rowsAt}
 use Rattle.stages.specs.Seeds.{distances, nextSeed, farthestSeeds, farther}
 use Rattle.stages.specs.SeedsCode.{from, Search, Searchable, Lies, Lowerable, Lowered, ahead, unseeded, farthest, degreeAt, Choosing, Seedable, SeededTo, Seeded}
 use Rattle.stages.specs.declared.level.HierarchyLevel.{HierarchyLevel}
-use Rattle.stages.proofs.DistanceLaws.{passing-gap, passing-in, unique, distances-distance, distances-length}
+use Rattle.stages.proofs.DistanceLaws.{passing-gap, passing-in, unique, distances-hold, distances-length}
 use Rattle.stages.proofs.GrowthLaws.{length-seeds}
 use Rattle.stages.proofs.LoweringLaws.{lies-kept}
 
@@ -94,12 +94,12 @@ module _ (rows : List (List ℕ)) (sound : Sound rows) (few : length rows < unas
   -- the seeds are those at distance 0
   seed-test : (v : ℕ) → v < length rows → eqb (at (distances rows seeds) v) 0 ≡ elem v seeds
   seed-test v h =
-      let L = distances-distance rows sound seeds few in
+      let L = distances-hold rows sound seeds few in
       iff-eq (eqb (at (distances rows seeds) v) 0) (elem v seeds)
       (λ p. L .seeds-only v h (eqb-true (at (distances rows seeds) v) 0 p))
       (λ p. eq-eqb (at (distances rows seeds) v) 0 (L .at-seeds v h p))
 
-  pub far-next
+  far-next
       : (d deg : ℕ → ℕ)
       → ((v : ℕ) → v < length rows → d v ≡ at (distances rows seeds) v)
       → ((v : ℕ) → v < length rows → deg v ≡ degree rows v)
@@ -149,7 +149,7 @@ none-reached rows sound few =
       near = λ v h w e. omega arith;
       nearer = λ v h l m. absurd (omega arith);
     })
-    (distances-distance rows sound [] few)
+    (distances-hold rows sound [] few)
 
 -- what the search for the r-th seed goes by
 unfoldable pub searchFor : List (List ℕ) → ℕ → Search
@@ -164,7 +164,7 @@ searchable : (rows : List (List ℕ)) (r : ℕ) → Sound rows → length rows <
 unfolding searchFor
 searchable rows r sound few h =
     let F = farthestSeeds rows r in
-    let L = distances-distance rows sound F few in
+    let L = distances-hold rows sound F few in
     let N = next-fresh rows F (omega (arith, length-seeds rows r)) in
     let d = at (distances rows F) (nextSeed rows F) in
     record {
@@ -321,7 +321,7 @@ module _ {w₀ : List ℕ} {l : HierarchyLevel} {s k : ℕ} (P : Seedable w₀ l
                 ∙ ap (λ (z : ℕ). farthestSeeds rows r ++ (z ∷ [])) is-next
                 ∙ sym grown;
             distance = λ v m.
-                unique rows (lies₀ .sound) more (from w′ s) (at (distances rows more)) (L .distance) (distances-distance rows (lies₀ .sound) more (lies₀ .few)) v m
+                unique rows (lies₀ .sound) more (from w′ s) (at (distances rows more)) (L .distance) (distances-hold rows (lies₀ .sound) more (lies₀ .few)) v m
                 ∙ ap (λ (z : List ℕ). at (distances rows z) v) (sym grown);
             kept = kept-trans s (s + 2 * l .vertices + k) w′ w₁ w₀ (kept-wide s (s + 2 * l .vertices) s (s + 2 * l .vertices + k) w′ w₁ (omega arith) (omega arith) (L .kept)) kept-seed;
           }
