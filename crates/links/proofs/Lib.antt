@@ -3,3 +3,7 @@ pub mod PartLaws
 pub mod BestLaws
 pub mod SoundLaws
 pub mod RowLaws
+pub mod OwnerLaws
+pub mod ListTestLaws
+pub mod RangeLaws
+pub mod PackLaws

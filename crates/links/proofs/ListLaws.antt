@@ -1,11 +1,13 @@
 -- Laws of tests and of the functions on lists that the rules are written with. Assumes nothing.
-use Prim.Native.Nat.{ℕ, zero, suc, _+_, _≤_, _<_}
+use Prim.Native.Nat.{ℕ, zero, suc, _+_, _-_, _≤_, _<_}
 use mathlib.Core.Path.{_≡_, refl, sym, ap, _∙_, subst}
 use mathlib.Core.Bool.{Bool, true, false, not, _&&_, _||_, cond, true≢false, false≢true}
 use mathlib.Core.List.{List, [], _∷_, _++_, map, nil≢cons, head-eq-of-cons-eq, tail-eq-of-cons-eq}
 use mathlib.Core.Option.{Option, none, some}
+use native.Mathlib.Numerals.{add-one}
 use native.Mathlib.Omega.{arith}
-use lib.ListN.{length, getD, take}
+use lib.ListN.{length, getD, take, drop}
+use lib.Seq.{take-suc, drop-cons, split-at}
 use lib.Dec.{leb, ltb, eqb}
 use borrow.Author.Tests.{eq-eqb, ne-eqb, eqb-true, eqb-false, lt-ltb, le-ltb}
 use Rattle.links.specs.Lists.{All, filter, any, all, foldl, best, bestFrom, insert, sortBy, range, concatMap, elem}
@@ -269,3 +271,40 @@ pub count-concat : {A : Type 0} (p : A → Bool) (f : ℕ → List A) (i n : ℕ
 unfolding total
 count-concat p f i zero = refl
 count-concat p f i (suc n) = omega (arith, count-append p (f i) (concatMap f (range (suc i) n)), count-concat p f (suc i) n)
+
+pub or-true : (b : Bool) → b || true ≡ true
+or-true true = refl
+or-true false = refl
+
+pub or-false : (b : Bool) → b || false ≡ b
+or-false true = refl
+or-false false = refl
+
+-- ---- one more of a list or of a range, as a loop over indices meets them
+
+pub any-ext : (p q : ℕ → Bool) (i n : ℕ) → ((x : ℕ) → i ≤ x → x < i + n → p x ≡ q x) → any p (range i n) ≡ any q (range i n)
+any-ext p q i zero e = refl
+any-ext p q i (suc n) e = rw (e i (omega arith) (omega arith), any-ext p q (suc i) n (λ x h k. e x (omega arith) (omega arith)))
+
+pub any-range : (p : ℕ → Bool) (i n : ℕ) → i < n → any p (range i (n - i)) ≡ cond (p i) true (any p (range (i + 1) (n - (i + 1))))
+any-range p i n h =
+    let e : n - i ≡ suc (n - (i + 1)) = omega arith in
+    rw (e, add-one)
+
+-- a test passes on none exactly when it counts none
+pub none-counts : {A : Type 0} (p : A → Bool) (xs : List A) → eqb (count p xs) 0 ≡ not (any p xs)
+none-counts p [] = refl
+none-counts p (x ∷ xs) = split (p x) (λ q. rw q (ne-eqb (suc (count p xs)) 0 (λ e. omega arith))) (λ q. rw q (none-counts p xs))
+
+module _ {A : Type 0} (xs : List A) (i : ℕ) (d : A) (h : i < length xs) where
+  pub any-drop : (p : A → Bool) → any p (drop i xs) ≡ cond (p (getD xs i d)) true (any p (drop (i + 1) xs))
+  any-drop p = rw (add-one, drop-cons xs i d)
+
+  pub count-drop : (p : A → Bool) → count p (drop i xs) ≡ tally (p (getD xs i d)) + count p (drop (i + 1) xs)
+  count-drop p = rw (add-one, drop-cons xs i d) (count-cons p (getD xs i d) (drop (suc i) xs))
+
+  pub all-getD : (P : A → Type 0) → All P xs → P (getD xs i d)
+  all-getD P a = all-at P xs (take i xs) (drop (suc i) xs) (getD xs i d) a (split-at xs i d h)
+
+pub elem-take : (x : ℕ) (xs : List ℕ) (i : ℕ) → i < length xs → elem x (take (i + 1) xs) ≡ (elem x (take i xs) || eqb x (getD xs i 0))
+elem-take x xs i h = rw (add-one, take-suc xs i 0) (elem-append x (take i xs) (getD xs i 0 ∷ []) ∙ split (eqb x (getD xs i 0)) (λ p. rw p) (λ p. rw p))

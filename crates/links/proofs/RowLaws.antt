@@ -1,16 +1,16 @@
 -- Laws of rows: where the row of a vertex lies in the neighbor slice, and what its entries are. Assumes nothing.
 use mathlib.Core.Path.{_≡_, refl, sym, ap, _∙_}
-use mathlib.Core.Bool.{Bool, true, false, cond, _&&_, false≢true}
+use mathlib.Core.Bool.{true, false, false≢true}
 use mathlib.Core.List.{List, [], _∷_, map}
 use Prim.Native.Nat.{ℕ, zero, suc, _+_, _-_, _≤_, _<_}
 use native.Mathlib.Nat.{not-suc-le-zero, le-of-suc-le-suc, zero-add}
 use native.Mathlib.Omega.{arith}
-use borrow.Author.Tests.{le-leb, lt-leb, ltb-true}
+use borrow.Author.Tests.{le-leb, lt-leb, leb-true, leb-false, ltb-true, eq-eqb, ne-eqb}
 use lib.Dec.{eqb, leb, ltb}
-use lib.ListN.{length, getD, length-map}
-use Rattle.links.specs.Lists.{at, All, all, range}
+use lib.ListN.{length, getD, length-map, List·getD-eq-default}
+use Rattle.links.specs.Lists.{at, All, all, range, elem}
 use Rattle.links.specs.Parts.{part}
-use Rattle.links.specs.Graph.{row, rowsOf, vertexCount, neighborsOf, neighborsCause, strictlyRising, Sound, SoundLists}
+use Rattle.links.specs.Graph.{row, rowsOf, vertexCount, neighborsOf, neighborsCause, strictlyRising, SoundLists}
 use Rattle.links.proofs.ListLaws.{split, length-range, all-of}
 use Rattle.links.proofs.PartLaws.{length-part, getD-part}
 
@@ -83,3 +83,39 @@ module _ (o l : List ℕ) (s : SoundLists o l) where
 
     pub row-rises : (i j : ℕ) → i < j → j < length (row (rowsOf o l) v) → at (row (rowsOf o l) v) i < at (row (rowsOf o l) v) j
     row-rises = rises-by (row (rowsOf o l) v) (s .sound .rises v (rw (length-rows o l) h))
+
+-- ---- the query, on any lists
+
+-- no cause
+pub cause-zero : (o l : List ℕ) (v : ℕ) → neighborsCause o l v ≡ 0 → (v < vertexCount o) × (at o v ≤ at o (v + 1)) × (at o (v + 1) ≤ length l)
+unfolding neighborsCause
+cause-zero o l v e = split (leb (vertexCount o) v)
+    (λ p. let z : _≡_ {A = ℕ} 11 0 = rw p at e in absurd (omega arith))
+    (λ p. split (leb (at o v) (at o (v + 1)))
+    (λ q. split (leb (at o (v + 1)) (length l))
+    (λ r. (leb-false (vertexCount o) v p, leb-true (at o v) (at o (v + 1)) q, leb-true (at o (v + 1)) (length l) r))
+    (λ r. let z : _≡_ {A = ℕ} 4 0 = rw (p, q, r) at e in absurd (omega arith)))
+    (λ q. let z : _≡_ {A = ℕ} 4 0 = rw (p, q) at e in absurd (omega arith)))
+
+-- no vertex
+pub query-none : (o l : List ℕ) (v : ℕ) → vertexCount o ≤ v → neighborsOf o l v ≡ []
+unfolding neighborsOf neighborsCause
+query-none o l v h = rw (le-leb (vertexCount o) v h)
+
+-- a row is what the query hands out, past the last too
+pub row-always : (o l : List ℕ) (v : ℕ) → row (rowsOf o l) v ≡ neighborsOf o l v
+row-always o l v = split (leb (vertexCount o) v)
+    (λ p. let h : vertexCount o ≤ v = leb-true (vertexCount o) v p in
+    List·getD-eq-default (rowsOf o l) [] (rw (length-rows o l) h) ∙ sym (query-none o l v h))
+    (λ p. row-query o l v (leb-false (vertexCount o) v p))
+
+-- ---- being in a list, by places
+
+pub elem-place : (xs : List ℕ) (i x : ℕ) → i < length xs → at xs i ≡ x → elem x xs ≡ true
+elem-place [] i x h e = absurd (not-suc-le-zero h)
+elem-place (y ∷ xs) zero x h e = rw (eq-eqb x y (sym e))
+elem-place (y ∷ xs) (suc i) x h e = split (eqb x y) (λ p. rw p) (λ p. rw p (elem-place xs i x (le-of-suc-le-suc h) e))
+
+pub elem-nowhere : (xs : List ℕ) (x : ℕ) → ((i : ℕ) → i < length xs → at xs i ≡ x → ⊥) → elem x xs ≡ false
+elem-nowhere [] x h = refl
+elem-nowhere (y ∷ xs) x h = rw (ne-eqb x y (λ e. h 0 (omega arith) (sym e))) (elem-nowhere xs x (λ i l e. h (suc i) (omega arith) e))

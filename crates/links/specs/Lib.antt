@@ -5,3 +5,4 @@ pub mod Loads
 pub mod Graph
 pub mod Owners
 pub mod Options
+pub mod ListTest

@@ -31,3 +31,59 @@ zeroStats =
       «final_cut_nnz» = 0;
       «final_communication_volume» = 0;
     }
+
+-- a kept coarsening step's counts; as in the Rust, a count that would pass 2^64 − 1 stays there
+unfoldable pub addedPairs : AbtmMultilevelStats → ℕ → ℕ → AbtmMultilevelStats
+addedPairs s pairs singletons =
+    record {
+      «levels_built» = saturating (s .«levels_built» + 1);
+      «coarsest_vertices» = s .«coarsest_vertices»;
+      «matched_pairs» = saturating (s .«matched_pairs» + pairs);
+      «singleton_aggregates» = saturating (s .«singleton_aggregates» + singletons);
+      «coarse_restarts» = s .«coarse_restarts»;
+      «refinement_moves» = s .«refinement_moves»;
+      «final_cut_nnz» = s .«final_cut_nnz»;
+      «final_communication_volume» = s .«final_communication_volume»;
+    }
+
+-- the moves of a level, "moves include swaps"
+unfoldable pub addedMoves : AbtmMultilevelStats → ℕ → AbtmMultilevelStats
+addedMoves s moves =
+    record {
+      «levels_built» = s .«levels_built»;
+      «coarsest_vertices» = s .«coarsest_vertices»;
+      «matched_pairs» = s .«matched_pairs»;
+      «singleton_aggregates» = s .«singleton_aggregates»;
+      «coarse_restarts» = s .«coarse_restarts»;
+      «refinement_moves» = saturating (s .«refinement_moves» + moves);
+      «final_cut_nnz» = s .«final_cut_nnz»;
+      «final_communication_volume» = s .«final_communication_volume»;
+    }
+
+-- the groups of the coarsest level, and growth's restarts
+unfoldable pub grownStats : AbtmMultilevelStats → ℕ → ℕ → AbtmMultilevelStats
+grownStats s coarsest restarts =
+    record {
+      «levels_built» = s .«levels_built»;
+      «coarsest_vertices» = coarsest;
+      «matched_pairs» = s .«matched_pairs»;
+      «singleton_aggregates» = s .«singleton_aggregates»;
+      «coarse_restarts» = restarts;
+      «refinement_moves» = s .«refinement_moves»;
+      «final_cut_nnz» = s .«final_cut_nnz»;
+      «final_communication_volume» = s .«final_communication_volume»;
+    }
+
+-- the cut and the volume of the owners written
+unfoldable pub measuredStats : AbtmMultilevelStats → ℕ → ℕ → AbtmMultilevelStats
+measuredStats s cut volume =
+    record {
+      «levels_built» = s .«levels_built»;
+      «coarsest_vertices» = s .«coarsest_vertices»;
+      «matched_pairs» = s .«matched_pairs»;
+      «singleton_aggregates» = s .«singleton_aggregates»;
+      «coarse_restarts» = s .«coarse_restarts»;
+      «refinement_moves» = s .«refinement_moves»;
+      «final_cut_nnz» = cut;
+      «final_communication_volume» = volume;
+    }

@@ -1,11 +1,11 @@
 -- Rule 2: assignment. An answer is an enum of src/owners.rt; here stand its number and its value in 01's terms. Assumes nothing.
-use Prim.Native.Nat.{ℕ}
+use Prim.Native.Nat.{ℕ, _<_}
 use mathlib.Core.Path.{_≡_}
 use mathlib.Core.Bool.{Bool, _||_, cond}
 use mathlib.Core.List.{List}
 use lib.ListN.{length}
 use lib.Dec.{leb, ltb, eqb}
-use Rattle.links.specs.Lists.{at, unassigned, any, range}
+use Rattle.links.specs.Lists.{at, unassigned, any, elem, range}
 use Rattle.links.specs.Graph.{owned}
 use Rattle.links.specs.declared.owners.Assignment.{Assignment}
 use Rattle.links.specs.declared.owners.Assignment.the-variants as assignment
@@ -21,6 +21,10 @@ badRanks k n = eqb k 0 || eqb k unassigned || ltb n k || eqb n 0
 -- 3: the limits of n and k
 unfoldable pub tooMany : ℕ → ℕ → Bool
 tooMany k n = ltb 16384 n || ltb 256 k
+
+-- the first of the two, or 0
+unfoldable pub countsCause : ℕ → ℕ → ℕ
+countsCause k n = cond (badRanks k n) 2 (cond (tooMany k n) 3 0)
 
 -- 12: "an owner ≥ k"
 unfoldable pub strayOwner : ℕ → List ℕ → Bool
@@ -78,3 +82,8 @@ pub record CountTold (k : ℕ) (owners : List ℕ) (rank : ℕ) (r : Count) : Ty
   pub answer : r ≡ cond (ltb rank k) (count.Owned (owned owners rank)) (count.Refused 12)
   pub number : countNumber r ≡ countCause k rank
   pub value : countValue r ≡ cond (ltb rank k) (owned owners rank) 0
+
+-- what marking a list's owners leaves: 1 at each of them, and elsewhere what stood there
+pub record Marked (owners marks′ marks : List ℕ) : Type 0 where
+  pub same-length : length marks′ ≡ length marks
+  pub entries : (r : ℕ) → r < length marks → at marks′ r ≡ cond (elem r owners) 1 (at marks r)

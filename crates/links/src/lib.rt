@@ -1,13 +1,27 @@
 // Loads and links: rules 1 and 2 of document 01, the neighbor query and the list test, options and stats, parts of the lent work slice.
+mod lists;
+mod loads;
 mod options;
 mod owners;
 mod parts;
 
+pub use lists::holds;
+pub use lists::lists_cause;
+pub use lists::neighbors_cause;
+pub use lists::neighbors_of;
+pub use lists::vertex_count;
+pub use loads::load_cap;
+pub use loads::minimum_load;
+pub use loads::saturating_add;
+pub use loads::saturating_mul;
 pub use options::AbtmMultilevelOptions;
 pub use options::AbtmMultilevelStats;
 pub use owners::Assignment;
 pub use owners::Count;
 pub use owners::Owner;
+pub use owners::from_owners;
+pub use owners::owned_count;
+pub use owners::owner_of;
 pub use parts::copy_into;
 pub use parts::copy_part;
 pub use parts::fill;

@@ -40,6 +40,7 @@ cap-share total k t h j =
     let product = total * (1000 + t) in
     rw (a, b) (div-mono (saturating product) product (1000 * k) (omega arith) (omega arith))
 
+-- the finest weights add up to the number of vertices
 pub sum-ones : (n : ℕ) → sum (replicate n 1) ≡ n
 sum-ones zero = refl
 sum-ones (suc n) = omega (arith, sum-ones n)
@@ -84,7 +85,8 @@ solved c g =
     let rows = siteRows c in
     let passes = c .options .«refinement_passes» in
     let small : length rows < unassigned = omega (arith, length-rows (c .offsets) (c .neighbors), g .few-vertices) in
-    let chain = chained (c .options .«max_levels») (stopSize (c .options) (c .ranks)) rows (finestWeights rows) (g .lists .sound) small (length-replicate (length rows) 1) in
+    let weighed : length (finestWeights rows) ≡ length rows = length-replicate (length rows) 1 in
+    let chain = chained (c .options .«max_levels») (stopSize (c .options) (c .ranks)) rows (finestWeights rows) (g .lists .sound) small weighed in
     solve-solved (balanceOf c) passes (few-ranks c g) (keptSteps c) (swapPasses passes) rows (finestWeights rows) (g .lists .sound) chain
 
 divided-of
@@ -119,13 +121,13 @@ shares-of c g t sol owners s e =
     let sw = swapPasses (c .options .«refinement_passes») in
     let a = divided-of (eqb (t .refusal) 0) (t .owners) owners s (statsOf rows k (keptSteps c) t) (t .refusal) e in
     let d = sol .done (eqb-true (t .refusal) 0 (a .0)) in
-    let share : balanceOf c .cap ≤ vertexCount (c .offsets) * (1000 + per) / (1000 * k) =
+    let fair-share : balanceOf c .cap ≤ vertexCount (c .offsets) * (1000 + per) / (1000 * k) =
     subst (λ (x : ℕ). balanceOf c .cap ≤ x * (1000 + per) / (1000 * k)) (sum-ones (length rows) ∙ n)
     (cap-share (sum (finestWeights rows)) k per (g .some-ranks) (g .tolerance)) in
     rw (a .1, a .2) (record {
       size = size-owners (balanceOf c) rows sw (keptSteps c) t d ∙ n;
       least = λ r h. omega (arith, same-owned (balanceOf c) rows sw (keptSteps c) t d r, none-empty k (moved (d .last)) (d .checked) r h);
-      most = λ r h. omega (arith, within-cap (balanceOf c) rows sw (keptSteps c) t d r h, share);
+      most = λ r h. omega (arith, within-cap (balanceOf c) rows sw (keptSteps c) t d r h, fair-share);
       whole = d .whole;
       finest = (d .coarser, d .last, d .levels-are, d .rows-are, d .owners-are);
       moves = refl;

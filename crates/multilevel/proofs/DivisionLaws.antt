@@ -18,7 +18,7 @@ use Rattle.stages.specs.Seeds.{farthestSeeds}
 use Rattle.stages.specs.Growth.{Turn, Growth, weightedMultisource, grown}
 use Rattle.stages.specs.Moves.{Step, after, repeat, refineByCut}
 use Rattle.stages.specs.Swaps.{refineFinePairSwaps}
-use Rattle.multilevel.specs.Causes.{Call, badCounts, overLimits, firstOf, tooShort, earlyCause}
+use Rattle.multilevel.specs.Causes.{Call, badCounts, overLimits, firstOf, needOf, tooShort, earlyCause}
 use Rattle.multilevel.specs.Division.{Level, Trace, noGrowth, stopped, coarsenings, takeOver, listLength, refine, grow, solve}
 use Rattle.multilevel.specs.Demand3.{Lists, listsOf, ladder, growthOn, moved, ended, FairTurn, FairLevel}
 use Rattle.links.proofs.ListLaws.{split, or-l, or-r, all-append, all-in, elem-range, any-none}
@@ -27,6 +27,7 @@ use Rattle.stages.proofs.StepLaws.{Along, foldl-append, length-steps, Swapped, 
 use Rattle.stages.proofs.GrowthLaws.{length-grown, growth-fair, allPass, growth-last}
 use Rattle.stages.proofs.LoadLaws.{growth-within, moves-within}
 use Rattle.stages.proofs.GroupingLaws.{coarse-sound, coarse-weighed, coarse-sized, coarse-load}
+use Rattle.multilevel.proofs.CauseLaws.{good-options, limited}
 use Rattle.multilevel.proofs.LevelLaws.{level-fair}
 
 -- ---- what the causes tested before the work leave
@@ -34,16 +35,25 @@ use Rattle.multilevel.proofs.LevelLaws.{level-fair}
 pub record Tested (c : Call) : Type 0 where
   pub lists : SoundLists (c .offsets) (c .neighbors)
   pub few-vertices : vertexCount (c .offsets) ≤ 16384
+  pub few-entries : length (c .neighbors) ≤ 131072
   pub some-ranks : 1 ≤ c .ranks
   pub few-ranks : c .ranks ≤ 256
+  pub enough-vertices : c .ranks ≤ vertexCount (c .offsets)
+  pub some-levels : 1 ≤ c .options .«max_levels»
+  pub few-levels : c .options .«max_levels» ≤ 32
+  pub some-per-rank : 1 ≤ c .options .«coarse_vertices_per_rank»
+  pub some-passes : 1 ≤ c .options .«refinement_passes»
   pub tolerance : c .options .«imbalance_per_mille» ≤ 500
+  pub owners-fit : vertexCount (c .offsets) ≤ c .ownersLength
+  pub work-fits : needOf c ≤ c .workLength
 
-first-none : (x y z w v : Bool) → _≡_ {A = ℕ} (firstOf x y z w v) 0 → (x ≡ false) × (y ≡ false) × (z ≡ false) × (w ≡ false)
+first-none : (x y z w v : Bool) → _≡_ {A = ℕ} (firstOf x y z w v) 0 → (x ≡ false) × (y ≡ false) × (z ≡ false) × (w ≡ false) × (v ≡ false)
 first-none true y z w v e = absurd (omega arith)
 first-none false true z w v e = absurd (omega arith)
 first-none false false true w v e = absurd (omega arith)
 first-none false false false true v e = absurd (omega arith)
-first-none false false false false v e = (refl, refl, refl, refl)
+first-none false false false false true e = absurd (omega arith)
+first-none false false false false false e = (refl, refl, refl, refl, refl)
 
 first-low : (x y z w v : Bool) → firstOf x y z w v < 8
 first-low true y z w v = omega arith
@@ -53,26 +63,35 @@ first-low false false false true v = omega arith
 first-low false false false false true = omega arith
 first-low false false false false false = omega arith
 
+-- a call with no early cause has passed them all
 pub tested : (c : Call) → earlyCause c ≡ 0 → Tested c
-unfolding earlyCause badOptions badCounts overLimits
+unfolding earlyCause badCounts tooShort
 tested c e =
     let o = c .options in
     let n = vertexCount (c .offsets) in
     let m = length (c .neighbors) in
     let k = c .ranks in
-    let l = o .«max_levels» in
-    let f = first-none (badOptions o) (badCounts n k) (overLimits n m k l) (badLists (c .offsets) (c .neighbors)) (tooShort c) e in
-    let zero-options : Bool = eqb l 0 || eqb (o .«coarse_vertices_per_rank») 0 || eqb (o .«refinement_passes») 0 in
-    let within : ltb 16384 n || ltb 131072 m || ltb 256 k ≡ false = or-l (ltb 16384 n || ltb 131072 m || ltb 256 k) (ltb 32 l) (f .2) in
+    let f = first-none (badOptions o) (badCounts n k) (overLimits n m k (o .«max_levels»)) (badLists (c .offsets) (c .neighbors)) (tooShort c) e in
+    let good = good-options o (f .0) in
+    let within = limited n m k (o .«max_levels») (f .2) in
     let kne : k ≢ 0 = eqb-false k 0 (or-r (eqb n 0) (eqb k 0) (or-l (eqb n 0 || eqb k 0) (ltb n k) (f .1))) in
     record {
       lists = sound-lists (c .offsets) (c .neighbors) (f .3);
-      few-vertices = ltb-false 16384 n (or-l (ltb 16384 n) (ltb 131072 m) (or-l (ltb 16384 n || ltb 131072 m) (ltb 256 k) within));
+      few-vertices = within .few-vertices;
+      few-entries = within .few-entries;
       some-ranks = omega arith;
-      few-ranks = ltb-false 256 k (or-r (ltb 16384 n || ltb 131072 m) (ltb 256 k) within);
-      tolerance = ltb-false 500 (o .«imbalance_per_mille») (or-r zero-options (ltb 500 (o .«imbalance_per_mille»)) (f .0));
+      few-ranks = within .few-ranks;
+      enough-vertices = ltb-false n k (or-r (eqb n 0 || eqb k 0) (ltb n k) (f .1));
+      some-levels = good .levels;
+      few-levels = within .few-levels;
+      some-per-rank = good .per-rank;
+      some-passes = good .passes;
+      tolerance = good .tolerance;
+      owners-fit = ltb-false (c .ownersLength) n (or-l (ltb (c .ownersLength) n) (ltb (c .workLength) (needOf c)) (f .4));
+      work-fits = ltb-false (c .workLength) (needOf c) (or-r (ltb (c .ownersLength) n) (ltb (c .workLength) (needOf c)) (f .4));
     }
 
+-- an early cause is not 8 or above
 pub early-low : (c : Call) → earlyCause c < 8
 unfolding earlyCause
 early-low c =
@@ -104,6 +123,7 @@ checked-none false false true w e = absurd (omega arith)
 checked-none false false false true e = absurd (omega arith)
 checked-none false false false false e = refl
 
+-- the check never answers 8, which is growth's alone
 pub fromOwners-8 : (k : ℕ) (owners : List ℕ) → fromOwners k owners ≢ 8
 unfolding fromOwners
 fromOwners-8 k owners = checked-8 (badRanks k (length owners)) (tooMany k (length owners)) (strayOwner k owners) (emptyRank k owners)
@@ -126,10 +146,12 @@ pub record Coarser (rows : List (List ℕ)) (ws : List ℕ) (c : Coarse) : Type 
   pub sized : length (c .group) ≡ length rows
   pub loads : (o : List ℕ) (r : ℕ) → length o ≡ length (c .rows) → load ws (map (at o) (c .group)) r ≡ load (c .weights) o r
 
+-- the steps kept, each from the lists of the one before
 abbrev pub Chain : List (List ℕ) → List ℕ → List Coarse → Type 0
 Chain rows ws [] = Unit {0}
 Chain rows ws (c ∷ cs) = Coarser rows ws c × Chain (c .rows) (c .weights) cs
 
+-- every step that `coarsenings` keeps is such
 pub chained
     : (l stop : ℕ) (rows : List (List ℕ)) (ws : List ℕ)
     → Sound rows
@@ -147,12 +169,13 @@ chained (suc l) stop rows ws s n w =
     (λ p. split (ltb (length (c .rows)) (length rows))
     (λ q.
     let less = ltb-true (length (c .rows)) (length rows) q in
-    rw (p, q) (coarser, chained l stop (c .rows) (c .weights) sound (omega arith) (coarse-weighed rows s ws n w)))
+    rw (p, q) (coarser, chained l stop (c .rows) (c .weights) sound (omega arith) (coarse-weighed rows ws)))
     (λ q. rw (p, q) tt))
 
 -- ---- growth on the coarsest lists
 
 module _ (b : Balance) where
+  -- every turn of it is fair
   pub growthOn-fair
       : (cs : List Coarse) (rows : List (List ℕ)) (ws : List ℕ) (before later : List Turn) (t : Turn)
       → growthOn b rows ws cs .turns ≡ before ++ t ∷ later
@@ -161,10 +184,12 @@ module _ (b : Balance) where
       record { passing = unfold weightedMultisource in growth-fair (b .cap) rows ws (farthestSeeds rows (b .ranks)) before later t e }
   growthOn-fair (c ∷ cs) rows ws before later t e = growthOn-fair cs (c .rows) (c .weights) before later t e
 
+  -- it leaves a group unowned only after a round in which every rank passed
   pub growthOn-last
       : (cs : List Coarse) (rows : List (List ℕ)) (ws : List ℕ)
       → b .ranks < unassigned
-      → (let g = growthOn b rows ws cs in any (eqb unassigned) (grown g (g .turns)) ≡ true → (before : List Turn) × (g .turns ≡ before ++ allPass (range 0 (b .ranks))))
+      → (let g = growthOn b rows ws cs in
+      any (eqb unassigned) (grown g (g .turns)) ≡ true → (before : List Turn) × (g .turns ≡ before ++ allPass (range 0 (b .ranks))))
   growthOn-last [] rows ws n e = growth-last (b .cap) rows ws (b .ranks) n e
   growthOn-last (c ∷ cs) rows ws n e = growthOn-last cs (c .rows) (c .weights) n e
 
@@ -181,6 +206,7 @@ Linked [] = Unit {0}
 Linked (l ∷ []) = Unit {0}
 Linked (l ∷ m ∷ ls) = (m .start ≡ map (at (ended l)) (m .group)) × Linked (m ∷ ls)
 
+-- read at the first level, and at two that follow each other
 pub first-at : (g : Growth) (ls : List Level) → First g ls → (l : Level) (finer : List Level) → ls ≡ l ∷ finer → l .start ≡ grown g (g .turns)
 first-at g [] f l finer e = absurd (nil≢cons e)
 first-at g (k ∷ ks) f l finer e = rw (← head-eq-of-cons-eq e) f
@@ -221,8 +247,12 @@ pub data Grew (g : Growth) (t : Trace) : Type 0 where
   grew : t .growth ≡ g → Grew g t
   not-yet : t .growth ≡ noGrowth → t .levels ≡ [] → t .refusal ≢ 0 → t .refusal < 8 → Grew g t
 
+grew-on : (g : Growth) (t : Trace) → Grew g t → t .refusal ≡ 0 → t .growth ≡ g
+grew-on g t (grew e) z = e
+grew-on g t (not-yet e l some low) z = absurd (some z)
+
 module _ (b : Balance) where
-  -- it has come through the level of these lists, and was not refused
+  -- it has come through the level of these lists, and was not refused: its levels, the last of them, and where its owners stand
   pub record Done (swapping : ℕ) (rows : List (List ℕ)) (ws : List ℕ) (cs : List Coarse) (t : Trace) : Type 0 where
     pub coarser : List Level
     pub last : Level
@@ -236,6 +266,7 @@ module _ (b : Balance) where
     pub checked : fromOwners (b .ranks) (moved last) ≡ 0
     pub still : swapping ≡ 0 → t .owners ≡ moved last
 
+  -- what holds of it, refused or not
   pub record Solved (swapping : ℕ) (rows : List (List ℕ)) (ws : List ℕ) (cs : List Coarse) (t : Trace) : Type 0 where
     pub growth : Grew (growthOn b rows ws cs) t
     pub unclaimed : t .refusal ≡ 8 → any (eqb unassigned) (grown (t .growth) (t .growth .turns)) ≡ true
@@ -246,6 +277,7 @@ module _ (b : Balance) where
     pub climbed : map listsOf (t .levels) ++ rest ≡ ladder rows ws cs
     pub done : t .refusal ≡ 0 → Done swapping rows ws cs t
 
+  -- a level's swaps, made if the check found no refusal
   module _ (rows : List (List ℕ)) (ws : List ℕ) (swapping : ℕ) (o : List ℕ) where
     swaps : Bool → List Step
     swaps x = cond x (refineFinePairSwaps b rows ws listLength swapping o .steps) []
@@ -316,7 +348,6 @@ module _ (b : Balance) where
       growth : Grew (growthOn b rows ws []) t
       none-yet : t .levels ≡ []
       unclaimed : t .refusal ≡ 8 → any (eqb unassigned) (grown (t .growth) (t .growth .turns)) ≡ true
-      grows : t .refusal ≡ 0 → t .growth ≡ growthOn b rows ws []
       starts : t .refusal ≡ 0 → t .owners ≡ grown (t .growth) (t .growth .turns)
       sized : t .refusal ≡ 0 → length (t .owners) ≡ length rows
       within : t .refusal ≡ 0 → (r : ℕ) → r < b .ranks → load ws (t .owners) r ≤ b .cap
@@ -340,7 +371,6 @@ module _ (b : Balance) where
           growth = not-yet refl refl some low;
           none-yet = refl;
           unclaimed = λ e. absurd (omega arith);
-          grows = λ e. absurd (some e);
           starts = λ e. absurd (some e);
           sized = λ e. absurd (some e);
           within = λ e. absurd (some e);
@@ -353,7 +383,6 @@ module _ (b : Balance) where
           growth = grew refl;
           none-yet = refl;
           unclaimed = is8 (any (eqb unassigned) (grown g (g .turns)));
-          grows = λ e. refl;
           starts = λ e. refl;
           sized = λ e. unfold weightedMultisource in length-grown g (g .turns);
           within = λ e r h. growth-within (b .cap) rows ws (farthestSeeds rows (b .ranks)) p r (λ q. omega arith);
@@ -371,7 +400,7 @@ module _ (b : Balance) where
         (λ q.
         let z = eqb-true (t .refusal) 0 q in
         rw q (refine-solved swapping rows ws [] [] [] t s (record {
-          grows = g .grows z;
+          grows = grew-on (growthOn b rows ws []) t (g .growth) z;
           fair = rw (g .none-yet) tt;
           joins = λ l e f. rw (g .none-yet) (e ∙ g .starts z, tt);
           climbed = rw (g .none-yet);
@@ -389,10 +418,6 @@ module _ (b : Balance) where
           climbed = rw (g .none-yet);
           done = λ e. absurd (eqb-false (t .refusal) 0 q e);
         }))
-
-    grew-on : (g : Growth) (t : Trace) → Grew g t → t .refusal ≡ 0 → t .growth ≡ g
-    grew-on g t (grew e) z = e
-    grew-on g t (not-yet e l some low) z = absurd (some z)
 
     finer-solved
         : (c : Coarse) (cs : List Coarse) (swapping : ℕ) (rows : List (List ℕ)) (ws : List ℕ)

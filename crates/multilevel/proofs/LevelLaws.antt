@@ -27,6 +27,7 @@ account-of rows so [] own n a = omega arith
 account-of rows so (s ∷ ss) own n a =
     omega (arith, step-cut rows so own s n (a .0 .0) (a .0 .1), account-of rows so ss (after own s) (length-after own s ∙ n) (a .1))
 
+-- a level whose moves and swaps are rule 6's and rule 7's is fair
 pub level-fair
     : (b : Balance) (l : Level)
     → Sound (l .rows)

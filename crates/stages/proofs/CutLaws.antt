@@ -299,6 +299,7 @@ step-cut rows so own (swap u v) n i g = swap-gain rows so own u v (i .0) (i .1) 
 
 -- ---- entries
 
+-- a sum of less is less
 pub total-le : (i n : ℕ) (f h : ℕ → ℕ) → ((u : ℕ) → f u ≤ h u) → total i n f ≤ total i n h
 unfolding total
 total-le i zero f h e = omega arith
@@ -325,7 +326,8 @@ cut-entries rows own =
     let few : (v : ℕ) → count (isCut own) (linksAt rows v) ≤ degree rows v =
     λ v. let pair : ℕ → ℕ × ℕ = λ u. (v, u) in
     omega (arith, count-length (isCut own) (linksAt rows v), length-map (filter (ltb v) (row rows v)) pair, count-length (ltb v) (row rows v)) in
-    omega (arith, count-concat (isCut own) (linksAt rows) 0 n, total-le 0 n (λ v. count (isCut own) (linksAt rows v)) (degree rows) few, total-degrees rows)
+    let most = total-le 0 n (λ v. count (isCut own) (linksAt rows v)) (degree rows) few in
+    omega (arith, count-concat (isCut own) (linksAt rows) 0 n, most, total-degrees rows)
 
 -- the degrees from i on, n of them, are what the offsets climb
 climb

@@ -55,7 +55,8 @@ module _ (rows : List (List ℕ)) (group : List ℕ) where
     touched-of : (g h : ℕ) → elem h (touched g) ≡ true → (v : ℕ) × (u : ℕ) × Touches g h v u
     touched-of g h e =
         let n = length rows in
-        let w = any-of (λ v. elem h (map (at group) (row rows v))) (members g) (sym (elem-concat h (λ v. map (at group) (row rows v)) (members g)) ∙ e) in
+        let groups : ℕ → List ℕ = λ v. map (at group) (row rows v) in
+        let w = any-of (λ v. elem h (groups v)) (members g) (sym (elem-concat h groups (members g)) ∙ e) in
         let v = w .0 in
         let k : eqb (at group v) g && elem v (vertices rows) ≡ true = sym (elem-filter v (λ v. eqb (at group v) g) (vertices rows)) ∙ w .1 in
         let all-low = all-range (λ v. v < n) 0 n (λ x a b. omega arith) in
@@ -76,10 +77,12 @@ module _ (rows : List (List ℕ)) (group : List ℕ) where
     to-touched : (g h v u : ℕ) → Touches g h v u → elem h (touched g) ≡ true
     to-touched g h v u t =
         let in-vertices = elem-range v 0 (length rows) (omega arith) (omega (arith, t .from)) in
-        let k : elem v (members g) ≡ true = elem-filter v (λ v. eqb (at group v) g) (vertices rows) ∙ and-i _ _ (eq-eqb (at group v) g (t .of-g)) in-vertices in
-        let z : elem h (map (at group) (row rows v)) ≡ true =
+        let groups : ℕ → List ℕ = λ v. map (at group) (row rows v) in
+        let k : elem v (members g) ≡ true =
+        elem-filter v (λ v. eqb (at group v) g) (vertices rows) ∙ and-i _ _ (eq-eqb (at group v) g (t .of-g)) in-vertices in
+        let z : elem h (groups v) ≡ true =
         elem-map h (at group) (row rows v) ∙ to-any (λ u. eqb h (at group u)) (row rows v) u (t .linked) (eq-eqb h (at group u) (sym (t .of-h))) in
-        elem-concat h (λ v. map (at group) (row rows v)) (members g) ∙ to-any (λ v. elem h (map (at group) (row rows v))) (members g) v k z
+        elem-concat h groups (members g) ∙ to-any (λ v. elem h (groups v)) (members g) v k z
 
     touched-back : (g h : ℕ) → elem h (touched g) ≡ true → elem g (touched h) ≡ true
     touched-back g h e =
@@ -105,6 +108,7 @@ module _ (rows : List (List ℕ)) (group : List ℕ) where
       unfolding coarseRow
       row-rises g = filter-rises (λ h. not (eqb h g) && elem h (touched g)) 0 m
 
+      -- coarse rows are below the number of groups, rising, self-free and symmetric
       pub rows-sound : Sound (map (coarseRow rows group m) (range 0 m))
       rows-sound =
           let f = coarseRow rows group m in
@@ -174,6 +178,7 @@ elems-few (x ∷ xs) i n =
       elems-few xs i n,
     )
 
+-- an entry of a coarse row comes from an entry of a fine row of its own
 pub rows-entries
     : (rows : List (List ℕ)) (group : List ℕ) (m : ℕ) → sum (map length (map (coarseRow rows group m) (range 0 m))) ≤ sum (map length rows)
 unfolding coarseRow
@@ -377,12 +382,14 @@ elem-falling : (d m : ℕ) → d ≤ m → elem d (falling m) ≡ true
 elem-falling d zero h = rw (eq-eqb d 0 (omega arith))
 elem-falling d (suc m) h = split (eqb d (suc m)) (λ q. rw q) (λ q. let z = eqb-false d (suc m) q in rw q (elem-falling d m (omega arith)))
 
+-- no degree is above the highest
 pub degree-most : (rows : List (List ℕ)) (v : ℕ) → degree rows v ≤ highestDegree rows
 degree-most [] v = omega arith
 degree-most (r ∷ rs) zero = omega arith
 degree-most (r ∷ rs) (suc v) = omega (arith, degree-most rs v)
 
 module _ (rows : List (List ℕ)) where
+  -- every vertex is in the order by degree, and nothing else
   pub byDegree-has : (v : ℕ) → v < length rows → elem v (byDegree rows) ≡ true
   unfolding byDegree
   byDegree-has v h =
@@ -403,7 +410,20 @@ module _ (rows : List (List ℕ)) where
 
 -- ---- a step as a whole
 
+-- a weight for each group
+pub coarse-weighed : (rows : List (List ℕ)) (ws : List ℕ) → length (coarsenOnce rows ws .weights) ≡ length (coarsenOnce rows ws .rows)
+unfolding coarsenOnce
+coarse-weighed rows ws =
+    let m = length (pairing rows ws .weights) in
+    sym (length-map (range 0 m) (coarseRow rows (pairing rows ws .group) m) ∙ length-range 0 m)
+
+-- no more entries
+pub coarse-entries : (rows : List (List ℕ)) (ws : List ℕ) → sum (map length (coarsenOnce rows ws .rows)) ≤ sum (map length rows)
+unfolding coarsenOnce
+coarse-entries rows ws = rows-entries rows (pairing rows ws .group) (length (pairing rows ws .weights))
+
 module _ (rows : List (List ℕ)) (s : Sound rows) (ws : List ℕ) (small : length rows < unassigned) (weighed : length ws ≡ length rows) where
+  -- before the first turn, and after the last
   pub unmatched-grouped : Grouped (length rows) ws (unmatched (length rows))
   unfolding unmatched byIndex
   unmatched-grouped =
@@ -424,17 +444,12 @@ module _ (rows : List (List ℕ)) (s : Sound rows) (ws : List ℕ) (small : leng
   pairing-covers v h =
       covers rows s ws small weighed (byDegree rows) (byDegree-below rows) (unmatched (length rows)) unmatched-grouped v (byDegree-has rows v h)
 
+  -- its rows are sound
   pub coarse-sound : Sound (coarsenOnce rows ws .rows)
   unfolding coarsenOnce
   coarse-sound = rows-sound rows (pairing rows ws .group) s (length (pairing rows ws .weights))
 
-  -- a weight for each group, a group for each vertex, and no more groups than vertices
-  pub coarse-weighed : length (coarsenOnce rows ws .weights) ≡ length (coarsenOnce rows ws .rows)
-  unfolding coarsenOnce
-  coarse-weighed =
-      let m = length (pairing rows ws .weights) in
-      sym (length-map (range 0 m) (coarseRow rows (pairing rows ws .group) m) ∙ length-range 0 m)
-
+  -- a group for each vertex, and no more groups than vertices
   pub coarse-sized : length (coarsenOnce rows ws .group) ≡ length rows
   unfolding coarsenOnce
   coarse-sized = pairing-grouped .sized
@@ -443,17 +458,14 @@ module _ (rows : List (List ℕ)) (s : Sound rows) (ws : List ℕ) (small : leng
   unfolding coarsenOnce
   coarse-few = omega (arith, pairing-grouped .room)
 
-  pub coarse-entries : sum (map length (coarsenOnce rows ws .rows)) ≤ sum (map length rows)
-  unfolding coarsenOnce
-  coarse-entries = rows-entries rows (pairing rows ws .group) (length (pairing rows ws .weights))
-
   -- what the groups that pass weigh, whatever the test
   groups-weigh : (P : ℕ → Bool) → loadBy P ws (coarsenOnce rows ws .group) ≡ byIndex P 0 (coarsenOnce rows ws .weights)
   unfolding coarsenOnce
   groups-weigh P =
       let p = pairing rows ws in
       let made : ℕ → Bool = λ g. not (eqb g unassigned) && P g in
-      let fine = by-ext P made ws (p .group) (λ i h. rw (ne-eqb (at (p .group) i) unassigned (pairing-covers i (omega (arith, pairing-grouped .sized))))) in
+      let size = pairing-grouped .sized in
+      let fine = by-ext P made ws (p .group) (λ i h. rw (ne-eqb (at (p .group) i) unassigned (pairing-covers i (omega arith)))) in
       let coarse = index-ext made P 0 (p .weights) (λ g j e h. rw (ne-eqb g unassigned (λ z. omega (arith, pairing-grouped .room)))) in
       fine ∙ pairing-grouped .adds made refl ∙ coarse
 
@@ -471,5 +483,31 @@ module _ (rows : List (List ℕ)) (s : Sound rows) (ws : List ℕ) (small : leng
   coarse-load o r n =
       let c = coarsenOnce rows ws in
       let owns : ℕ → Bool = λ g. eqb (at o g) r in
-      let same = index-load owns 0 (c .weights) o r (n ∙ sym coarse-weighed) (λ g j e. let z : g ≡ j = omega arith in ap owns z) in
+      let same = index-load owns 0 (c .weights) o r (n ∙ sym (coarse-weighed rows ws)) (λ g j e. let z : g ≡ j = omega arith in ap owns z) in
       load-by ws (c .group) o r ∙ groups-weigh owns ∙ same
+
+-- ---- the counts of a step
+
+-- pairs and singletons are all the groups
+abbrev Counted : Pairing → Type 0
+Counted p = p .pairs + p .singletons ≡ length (p .weights)
+
+grouped-counted : (ws : List ℕ) (p : Pairing) (v : ℕ) (u : Option ℕ) → Counted p → Counted (grouped ws p v u)
+unfolding grouped
+grouped-counted ws p v none e = omega (arith, length-append (p .weights) (at ws v ∷ []))
+grouped-counted ws p v (some u) e = omega (arith, length-append (p .weights) ((at ws v + at ws u) ∷ []))
+
+match-counted : (rows : List (List ℕ)) (ws : List ℕ) (vs : List ℕ) (p : Pairing) → Counted p → Counted (foldl (match rows ws) p vs)
+unfolding match
+match-counted rows ws [] p e = e
+match-counted rows ws (v ∷ vs) p e =
+    match-counted rows ws vs (cond (eqb (at (p .group) v) unassigned) (grouped ws p v (partner rows (p .group) v)) p)
+    (split (eqb (at (p .group) v) unassigned)
+    (λ q. rw q (grouped-counted ws p v (partner rows (p .group) v) e))
+    (λ q. rw q e))
+
+pub coarse-counted
+    : (rows : List (List ℕ)) (ws : List ℕ) → coarsenOnce rows ws .pairs + coarsenOnce rows ws .singletons ≡ length (coarsenOnce rows ws .weights)
+unfolding coarsenOnce pairing unmatched
+coarse-counted rows ws =
+    match-counted rows ws (byDegree rows) (record { group = replicate (length rows) unassigned; weights = []; pairs = 0; singletons = 0 }) refl

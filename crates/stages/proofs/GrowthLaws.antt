@@ -22,19 +22,11 @@ use Rattle.stages.proofs.StepLaws.{Along, along-at, along-append, foldl
 pub popped : (free fit : ℕ → Bool) (fs over : List ℕ) (g : ℕ) → pop free fit fs over .claim ≡ some g → (free g ≡ true) × (fit g ≡ true)
 unfolding pop
 popped free fit [] over g e = let z : _≡_ {A = ℕ} 0 1 = cc in absurd (omega arith)
-popped free fit (f ∷ fs) over g e = go (free f) (fit f) refl refl e (popped free fit fs over g) (popped free fit fs (over ++ (f ∷ [])) g)
-  where
-    go
-        : (x y : Bool)
-        → free f ≡ x
-        → fit f ≡ y
-        → cond x (cond y (record { claim = some f; frontier = fs ++ over }) (pop free fit fs (over ++ (f ∷ [])))) (pop free fit fs over) .claim ≡ some g
-        → (pop free fit fs over .claim ≡ some g → (free g ≡ true) × (fit g ≡ true))
-        → (pop free fit fs (over ++ (f ∷ [])) .claim ≡ some g → (free g ≡ true) × (fit g ≡ true))
-        → (free g ≡ true) × (fit g ≡ true)
-    go true true p q r dropped passed = let e : f ≡ g = cc in (rw e at p, rw e at q)
-    go true false p q r dropped passed = passed r
-    go false y p q r dropped passed = dropped r
+popped free fit (f ∷ fs) over g e = split (free f)
+    (λ p. split (fit f)
+    (λ q. let z : some f ≡ some g = rw (p, q) at e in let same : f ≡ g = cc in (rw same at p, rw same at q))
+    (λ q. popped free fit fs (over ++ (f ∷ [])) g (rw (p, q) at e)))
+    (λ p. popped free fit fs over g (rw p at e))
 
 -- an unowned group is one of those listed, since past the end is 0
 pub unowned-in : (owners : List ℕ) (v : ℕ) → at owners v ≡ unassigned → v < length owners
@@ -59,8 +51,8 @@ claimable cap weights owners r g = unowned owners g && fits cap weights owners r
 abbrev higher : List (List ℕ) → ℕ → ℕ → Bool
 higher rows g h = ltb (degree rows h) (degree rows g)
 
--- a group that is claimed anew is unowned and fits
-pub restart-some
+-- a restart's group is unowned and fits
+restart-some
     : (cap : ℕ) (rows : List (List ℕ)) (weights owners : List ℕ) (r g : ℕ)
     → restart cap rows weights owners r ≡ some g
     → (unowned owners g ≡ true) × (fits cap weights owners r g ≡ true)
@@ -69,10 +61,48 @@ restart-some cap rows weights owners r g e =
     let k = best-kept (higher rows) (claimable cap weights owners r) (vertices rows) g e in
     (and-l (unowned owners g) (fits cap weights owners r g) k, and-r (unowned owners g) (fits cap weights owners r g) k)
 
-module _ (cap : ℕ) (rows : List (List ℕ)) (weights : List ℕ) (s : Growing) (r : ℕ) (sized : length (s .owners) ≡ length rows) where
-  popNow : Popped
-  popNow = pop (unowned (s .owners)) (fits cap weights (s .owners) r) (getD (s .frontiers) r []) []
+-- what a rank pops at its turn
+abbrev popNow : ℕ → List ℕ → Growing → ℕ → Popped
+popNow cap weights s r = pop (unowned (s .owners)) (fits cap weights (s .owners) r) (getD (s .frontiers) r []) []
 
+pop-some
+    : (cap : ℕ) (weights : List ℕ) (s : Growing) (r g : ℕ)
+    → popNow cap weights s r .claim ≡ some g
+    → (unowned (s .owners) g ≡ true) × (fits cap weights (s .owners) r g ≡ true)
+pop-some cap weights s r g e = popped (unowned (s .owners)) (fits cap weights (s .owners) r) (getD (s .frontiers) r []) [] g e
+
+-- a group that is claimed was unowned and fits
+abbrev pub Takes : ℕ → List ℕ → List ℕ → ℕ → Choice → Type 0
+Takes cap weights owners r passes = Unit {0}
+Takes cap weights owners r (claims g) = (at owners g ≡ unassigned) × (load weights owners r + at weights g ≤ cap)
+Takes cap weights owners r (restarts g) = (at owners g ≡ unassigned) × (load weights owners r + at weights g ≤ cap)
+
+-- the same of a turn
+abbrev pub Taking : ℕ → List ℕ → List ℕ → Turn → Type 0
+Taking cap weights owners t = Takes cap weights owners (t .rank) (t .choice)
+
+-- a turn claims only such a group
+pub turn-takes
+    : (cap : ℕ) (rows : List (List ℕ)) (weights : List ℕ) (s : Growing) (r : ℕ) → Taking cap weights (s .owners) (turn cap rows weights s r .turn)
+unfolding turn fits
+turn-takes cap rows weights s r = go (popNow cap weights s r .claim) (restart cap rows weights (s .owners) r) refl refl
+  where
+    told
+        : (g : ℕ)
+        → (unowned (s .owners) g ≡ true) × (fits cap weights (s .owners) r g ≡ true)
+        → (at (s .owners) g ≡ unassigned) × (load weights (s .owners) r + at weights g ≤ cap)
+    told g h = (eqb-true (at (s .owners) g) unassigned (h .0), leb-true (load weights (s .owners) r + at weights g) cap (h .1))
+
+    go
+        : (x y : Option ℕ)
+        → popNow cap weights s r .claim ≡ x
+        → restart cap rows weights (s .owners) r ≡ y
+        → Takes cap weights (s .owners) r (choice x y)
+    go (some g) y e f = told g (pop-some cap weights s r g e)
+    go none (some g) e f = told g (restart-some cap rows weights (s .owners) r g f)
+    go none none e f = tt
+
+module _ (cap : ℕ) (rows : List (List ℕ)) (weights : List ℕ) (s : Growing) (r : ℕ) (sized : length (s .owners) ≡ length rows) where
   none-claimable : NoneFits cap rows weights (s .owners) r → (v : ℕ) → claimable cap weights (s .owners) r v ≡ false
   unfolding fits
   none-claimable h v = go (unowned (s .owners) v) (leb (load weights (s .owners) r + at weights v) cap) refl refl
@@ -85,26 +115,27 @@ module _ (cap : ℕ) (rows : List (List ℕ)) (weights : List ℕ) (s : Growing)
       go false y e f = refl
 
   passes-none : turn cap rows weights s r .turn .choice ≡ passes → NoneFits cap rows weights (s .owners) r
-  unfolding turn restart popNow fits
+  unfolding turn restart fits
   passes-none e v h o k =
       let test = claimable cap weights (s .owners) r in
-      let kept = best-none (higher rows) (filter test (vertices rows)) (choice-passes (popNow .claim) (restart cap rows weights (s .owners) r) e .1) in
+      let no-restart = choice-passes (popNow cap weights s r .claim) (restart cap rows weights (s .owners) r) e .1 in
+      let kept = best-none (higher rows) (filter test (vertices rows)) no-restart in
       let shut = filter-none test 0 (length rows) kept v (omega arith) (omega arith) in
       let fit = and-i _ _ (eq-eqb (at (s .owners) v) unassigned o) (le-leb (load weights (s .owners) r + at weights v) cap k) in
       true≢false (sym fit ∙ shut)
 
-  unclaimed : NoneFits cap rows weights (s .owners) r → (c : Option ℕ) → popNow .claim ≡ c → popNow .claim ≡ none
-  unfolding popNow
-  unclaimed h none e = e
+  unclaimed : NoneFits cap rows weights (s .owners) r → (c : Option ℕ) → popNow cap weights s r .claim ≡ c → c ≡ none
+  unclaimed h none e = refl
   unclaimed h (some g) e =
-      let p = popped (unowned (s .owners)) (fits cap weights (s .owners) r) (getD (s .frontiers) r []) [] g e in
+      let p = pop-some cap weights s r g e in
       absurd (true≢false (sym (and-i _ _ (p .0) (p .1)) ∙ none-claimable h g))
 
   none-passes : NoneFits cap rows weights (s .owners) r → turn cap rows weights s r .turn .choice ≡ passes
-  unfolding turn restart popNow
+  unfolding turn restart
   none-passes h =
       let test = claimable cap weights (s .owners) r in
-      ap₂ choice (unclaimed h (popNow .claim) refl) (ap (best (higher rows)) (none-filter test (vertices rows) (to-all _ (none-claimable h) (vertices rows))))
+      let kept = none-filter test (vertices rows) (to-all _ (none-claimable h) (vertices rows)) in
+      ap₂ choice (unclaimed h (popNow cap weights s r .claim) refl) (ap (best (higher rows)) kept)
 
   -- a rank passes exactly when no unowned group fits
   pub turn-fair : (turn cap rows weights s r .turn .choice ≡ passes) ↔ NoneFits cap rows weights (s .owners) r
@@ -112,6 +143,7 @@ module _ (cap : ℕ) (rows : List (List ℕ)) (weights : List ℕ) (s : Growing)
 
 -- ---- the owners that turns leave
 
+-- a turn, and turns, leave as many owners as they meet
 pub length-turn : (owners : List ℕ) (t : Turn) → length (afterTurn owners t) ≡ length owners
 unfolding afterChoice
 length-turn owners t = go (t .choice)
@@ -125,11 +157,13 @@ pub length-turns : (ts : List Turn) (owners : List ℕ) → length (foldl afterT
 length-turns [] owners = refl
 length-turns (t ∷ ts) owners = length-turns ts (afterTurn owners t) ∙ length-turn owners t
 
+-- a seed for each rank
 pub length-seeds : (rows : List (List ℕ)) (k : ℕ) → length (farthestSeeds rows k) ≡ k
 unfolding farthestSeeds
 length-seeds rows zero = refl
 length-seeds rows (suc k) = omega (arith, length-append (farthestSeeds rows k) (nextSeed rows (farthestSeeds rows k) ∷ []), length-seeds rows k)
 
+-- an owner, or none, for each group
 pub length-seedOwners : (n : ℕ) (ss : List ℕ) (r : ℕ) → length (seedOwners n ss r) ≡ n
 unfolding seedOwners
 length-seedOwners n [] r = length-replicate n unassigned
@@ -144,8 +178,7 @@ module _ (cap : ℕ) (rows : List (List ℕ)) (weights : List ℕ) where
   -- a turn, and a round, leave the owners that their choices say
   pub turn-owners : (s : Growing) (r : ℕ) → turn cap rows weights s r .state .owners ≡ afterTurn (s .owners) (turn cap rows weights s r .turn)
   unfolding turn chosen claimed afterChoice
-  turn-owners s r =
-      go (turn cap rows weights s r .turn .choice) (pop (unowned (s .owners)) (fits cap weights (s .owners) r) (getD (s .frontiers) r []) [] .frontier)
+  turn-owners s r = go (turn cap rows weights s r .turn .choice) (popNow cap weights s r .frontier)
     where
       go : (c : Choice) (f : List ℕ) → chosen cap rows weights s r f c .owners ≡ afterChoice (s .owners) r c
       go passes f = refl
@@ -163,7 +196,9 @@ module _ (cap : ℕ) (rows : List (List ℕ)) (weights : List ℕ) where
   -- ---- what holds at each turn of a growth
 
   -- P at each turn, from the owners that it meets: enough if it holds of `turn`
-  module _ (P : List ℕ → Turn → Type 0) (each : (s : Growing) (r : ℕ) → length (s .owners) ≡ length rows → P (s .owners) (turn cap rows weights s r .turn)) where
+  module _
+      (P : List ℕ → Turn → Type 0)
+      (each : (s : Growing) (r : ℕ) → length (s .owners) ≡ length rows → P (s .owners) (turn cap rows weights s r .turn)) where
     round-along : (s : Growing) (rs : List ℕ) → length (s .owners) ≡ length rows → Along P afterTurn (s .owners) (round cap rows weights s rs .turns)
     unfolding round
     round-along s [] h = tt
@@ -187,6 +222,7 @@ module _ (cap : ℕ) (rows : List (List ℕ)) (weights : List ℕ) where
         (λ q. rw (p, q) now))
         (λ p. rw p tt)
 
+    -- so it holds at each turn of a growth
     pub growth-along : (seeds : List ℕ) → Along P afterTurn (seedOwners (length rows) seeds 0) (weightedMultisource cap rows weights seeds .turns)
     unfolding weightedMultisource seeded
     growth-along seeds = rounds-along (length rows) (length seeds) (seeded rows seeds) (length-seedOwners (length rows) seeds 0)
@@ -227,22 +263,12 @@ module _ (cap : ℕ) (rows : List (List ℕ)) (weights : List ℕ) where
       → r ≢ unassigned
       → (let t = turn cap rows weights s r .turn in vacant (afterTurn (s .owners) t) + tally (isClaim t) ≡ vacant (s .owners))
   unfolding turn afterChoice
-  vacant-turn s r n = go (p .claim) (restart cap rows weights (s .owners) r) refl refl
+  vacant-turn s r n = go (turn cap rows weights s r .turn .choice) (turn-takes cap rows weights s r)
     where
-      p : Popped
-      p = pop (unowned (s .owners)) (fits cap weights (s .owners) r) (getD (s .frontiers) r []) []
-
-      take : (g : ℕ) → unowned (s .owners) g ≡ true → vacant (set (s .owners) g r) + 1 ≡ vacant (s .owners)
-      take g e = omega (arith, vacant-set (s .owners) g r (eqb-true (at (s .owners) g) unassigned e) n)
-
-      go
-          : (x y : Option ℕ)
-          → p .claim ≡ x
-          → restart cap rows weights (s .owners) r ≡ y
-          → vacant (afterChoice (s .owners) r (choice x y)) + tally (not (isPass (choice x y))) ≡ vacant (s .owners)
-      go (some g) y e f = take g (popped (unowned (s .owners)) (fits cap weights (s .owners) r) (getD (s .frontiers) r []) [] g e .0)
-      go none (some g) e f = take g (restart-some cap rows weights (s .owners) r g f .0)
-      go none none e f = omega arith
+      go : (c : Choice) → Takes cap weights (s .owners) r c → vacant (afterChoice (s .owners) r c) + tally (not (isPass c)) ≡ vacant (s .owners)
+      go passes a = omega arith
+      go (claims g) a = omega (arith, vacant-set (s .owners) g r (a .0) n)
+      go (restarts g) a = omega (arith, vacant-set (s .owners) g r (a .0) n)
 
   -- each claim of a round takes one of the vacant
   vacant-round
@@ -257,7 +283,8 @@ module _ (cap : ℕ) (rows : List (List ℕ)) (weights : List ℕ) where
       let ih = rw (turn-owners cap rows weights s i) at (vacant-round (t .state) (suc i) k (omega arith)) in
       omega (arith, count-cons isClaim (t .turn) ts, vacant-turn s i (λ x. omega arith), ih)
 
-  quiet-round : (s : Growing) (rs : List ℕ) → any isClaim (round cap rows weights s rs .turns) ≡ false → round cap rows weights s rs .turns ≡ allPass rs
+  quiet-round
+      : (s : Growing) (rs : List ℕ) → any isClaim (round cap rows weights s rs .turns) ≡ false → round cap rows weights s rs .turns ≡ allPass rs
   unfolding round turn
   quiet-round s [] e = refl
   quiet-round s (r ∷ rs) e = go (turn cap rows weights s r .turn .choice) refl e (quiet-round (turn cap rows weights s r .state) rs)

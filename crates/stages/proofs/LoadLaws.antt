@@ -4,20 +4,19 @@ use mathlib.Core.Path.{_≡_, refl, sym, ap, _∙_}
 use mathlib.Core.Logic.{_≢_}
 use mathlib.Core.Bool.{Bool, true, false, cond}
 use mathlib.Core.List.{List, [], _∷_, _++_, map}
-use mathlib.Core.Option.{Option, none, some}
 use native.Mathlib.Omega.{arith}
-use lib.ListN.{length, getD, set, replicate, length-set}
+use lib.ListN.{length, set, replicate, length-set}
 use lib.Seq.{getD-set-other}
 use lib.Dec.{ltb, eqb}
-use borrow.Author.Tests.{ne-eqb, eqb-true, ltb-false, leb-true}
+use borrow.Author.Tests.{ne-eqb, eqb-true, ltb-false}
 use Rattle.links.specs.Lists.{at, unassigned, any, foldl, sum, All}
 use Rattle.links.specs.Graph.{load, owned}
-use Rattle.stages.specs.Growth.{Choice, passes, claims, restarts, Turn, unowned, fits, afterChoice, afterTurn, Growing, Popped, pop, choice, restart, turn, seedOwners, weightedMultisource, grown}
+use Rattle.stages.specs.Growth.{Choice, passes, claims, restarts, Turn, afterChoice, afterTurn, seedOwners, weightedMultisource, grown}
 use Rattle.stages.specs.Moves.{Step, move, swap, after}
 use Rattle.links.proofs.ListLaws.{split, eqb-sym, tally, count-cons, any-none}
 use Rattle.stages.proofs.CutLaws.{swap-ranks}
 use Rattle.stages.proofs.StepLaws.{Along, length-after, Swapped, Moved}
-use Rattle.stages.proofs.GrowthLaws.{popped, restart-some, growth-along}
+use Rattle.stages.proofs.GrowthLaws.{Takes, Taking, turn-takes, growth-along}
 
 -- ---- one owner changed
 
@@ -78,6 +77,7 @@ load-by [] gs o r = refl
 load-by (w ∷ ws) [] o r = refl
 load-by (w ∷ ws) (g ∷ gs) o r = omega (arith, load-by ws gs o r)
 
+-- tests that agree on every group
 pub by-ext : (P Q : ℕ → Bool) (ws gs : List ℕ) → ((i : ℕ) → i < length gs → P (at gs i) ≡ Q (at gs i)) → loadBy P ws gs ≡ loadBy Q ws gs
 unfolding loadBy
 by-ext P Q [] gs h = refl
@@ -117,6 +117,7 @@ unfolding byIndex
 index-snoc P i [] x g e = let f : g ≡ i = omega arith in rw f (omega arith)
 index-snoc P i (w ∷ ws) x g e = omega (arith, index-snoc P (suc i) ws x g (omega arith))
 
+-- tests that agree on every number in range
 pub index-ext
     : (P Q : ℕ → Bool) (i : ℕ) (ws : List ℕ)
     → ((g j : ℕ) → g ≡ i + j → j < length ws → P g ≡ Q g)
@@ -126,6 +127,7 @@ index-ext P Q i [] h = refl
 index-ext P Q i (w ∷ ws) h =
     rw (h i 0 (omega arith) (omega arith), index-ext P Q (suc i) ws (λ g j e k. h g (suc j) (omega arith) (omega arith)))
 
+-- all pass
 pub index-all : (i : ℕ) (ws : List ℕ) → byIndex (λ g. true) i ws ≡ sum ws
 unfolding byIndex
 index-all i [] = refl
@@ -144,15 +146,6 @@ index-load P i (w ∷ ws) (o ∷ os) r n h =
     rw (h i 0 (omega arith), index-load P (suc i) ws os r (omega arith) (λ g j e. h g (suc j) (omega arith)))
 
 -- ---- growth keeps every load within the cap
-
--- a claim has room
-abbrev Room : ℕ → List ℕ → List ℕ → ℕ → Choice → Type 0
-Room cap ws os r passes = Unit {0}
-Room cap ws os r (claims g) = load ws os r + at ws g ≤ cap
-Room cap ws os r (restarts g) = load ws os r + at ws g ≤ cap
-
-abbrev Roomy : ℕ → List ℕ → List ℕ → Turn → Type 0
-Roomy cap ws os t = Room cap ws os (t .rank) (t .choice)
 
 low-weights : (cap : ℕ) (ws : List ℕ) → any (ltb cap) ws ≡ false → (g : ℕ) → at ws g ≤ cap
 low-weights cap ws e g = go ws (any-none (ltb cap) ws e) g
@@ -187,34 +180,19 @@ seeds-within cap ws low n (s ∷ ss) i r h =
     (λ q. omega (arith, simp q at l, seeds-within cap ws low n ss (suc i) r h))
 
 module _ (cap : ℕ) (rows : List (List ℕ)) (weights : List ℕ) where
-  turn-roomy : (s : Growing) (r : ℕ) → Roomy cap weights (s .owners) (turn cap rows weights s r .turn)
-  unfolding turn fits
-  turn-roomy s r = go (p .claim) (restart cap rows weights (s .owners) r) refl refl
-    where
-      p : Popped
-      p = pop (unowned (s .owners)) (fits cap weights (s .owners) r) (getD (s .frontiers) r []) []
-
-      room : (g : ℕ) → fits cap weights (s .owners) r g ≡ true → load weights (s .owners) r + at weights g ≤ cap
-      room g e = leb-true (load weights (s .owners) r + at weights g) cap e
-
-      go : (x y : Option ℕ) → p .claim ≡ x → restart cap rows weights (s .owners) r ≡ y → Room cap weights (s .owners) r (choice x y)
-      go (some g) y e f = room g (popped (unowned (s .owners)) (fits cap weights (s .owners) r) (getD (s .frontiers) r []) [] g e .1)
-      go none (some g) e f = room g (restart-some cap rows weights (s .owners) r g f .1)
-      go none none e f = tt
-
   turns-within
       : (r : ℕ) (ts : List Turn) (o : List ℕ)
-      → Along (Roomy cap weights) afterTurn o ts
+      → Along (Taking cap weights) afterTurn o ts
       → load weights o r ≤ cap
       → load weights (foldl afterTurn o ts) r ≤ cap
   unfolding afterChoice
   turns-within r [] o a h = h
   turns-within r (t ∷ ts) o a h = turns-within r ts (afterTurn o t) (a .1) (go (t .choice) (a .0))
     where
-      go : (c : Choice) → Room cap weights o (t .rank) c → load weights (afterChoice o (t .rank) c) r ≤ cap
+      go : (c : Choice) → Takes cap weights o (t .rank) c → load weights (afterChoice o (t .rank) c) r ≤ cap
       go passes k = h
-      go (claims g) k = within-set cap weights o g (t .rank) r k h
-      go (restarts g) k = within-set cap weights o g (t .rank) r k h
+      go (claims g) k = within-set cap weights o g (t .rank) r (k .1) h
+      go (restarts g) k = within-set cap weights o g (t .rank) r (k .1) h
 
   -- where no group weighs more than the cap, no rank does after growth
   pub growth-within
@@ -226,11 +204,12 @@ module _ (cap : ℕ) (rows : List (List ℕ)) (weights : List ℕ) where
   unfolding weightedMultisource grown
   growth-within seeds e r h =
       turns-within r (weightedMultisource cap rows weights seeds .turns) (seedOwners (length rows) seeds 0)
-      (growth-along cap rows weights (Roomy cap weights) (λ s q l. turn-roomy s q) seeds)
+      (growth-along cap rows weights (Taking cap weights) (λ s q l. turn-takes cap rows weights s q) seeds)
       (seeds-within cap weights (low-weights cap weights e) (length rows) seeds 0 r h)
 
   -- ---- moves keep every load within the cap; swaps leave the numbers owned
 
+  -- each move has room where it goes
   pub moves-within
       : (r : ℕ) (ss : List Step) (o : List ℕ)
       → Along (Moved cap rows weights) after o ss
@@ -248,6 +227,7 @@ swap-owned o u v r h k f =
     let b = rw d at (owned-set (set o u (at o v)) v (at o u) r (rw (length-set o u (at o v)) k)) in
     omega (arith, owned-set o u (at o v) r h, b)
 
+-- two of two ranks change places
 pub swaps-owned
     : (rows : List (List ℕ)) (r : ℕ) (ss : List Step) (o : List ℕ)
     → length o ≡ length rows

@@ -20,6 +20,7 @@ use Rattle.stages.proofs.CutLaws.{move-cut, InRange, step-cut}
 -- ---- a fact at each step of a run, from the state that the steps before left
 
 module _ {S X : Type 0} (P : S → X → Type 0) (f : S → X → S) where
+  -- P at each step x, with the state that it meets
   abbrev pub Along : S → List X → Type 0
   Along s [] = Unit {0}
   Along s (x ∷ xs) = P s x × Along (f s x) xs
@@ -32,6 +33,7 @@ module _ {S X : Type 0} (P : S → X → Type 0) (f : S → X → S) where
   along-at (b ∷ before) later (y ∷ ys) s x a e =
       rw (head-eq-of-cons-eq e) at (along-at before later ys (f s y) x (a .1) (tail-eq-of-cons-eq e))
 
+  -- of steps one after the other, and of the first of them
   pub along-append : (xs ys : List X) (s : S) → Along s xs → Along (foldl f s xs) ys → Along s (xs ++ ys)
   along-append [] ys s a b = b
   along-append (x ∷ xs) ys s a b = (a .0, along-append xs ys (f s x) (a .1) b)
@@ -50,6 +52,7 @@ pub along-to
 along-to P Q f g [] s a = tt
 along-to P Q f g (x ∷ xs) s a = (g s x (a .0), along-to P Q f g xs (f s x) (a .1))
 
+-- steps one after the other
 pub foldl-append : {S X : Type 0} (f : S → X → S) (xs ys : List X) (s : S) → foldl f s (xs ++ ys) ≡ foldl f (foldl f s xs) ys
 foldl-append f [] ys s = refl
 foldl-append f (x ∷ xs) ys s = foldl-append f xs ys (f s x)
@@ -80,6 +83,7 @@ abbrev pub Moved : ℕ → List (List ℕ) → List ℕ → List ℕ → Step �
 Moved cap rows weights own (move v r) = (v < length rows) × (1 ≤ gain rows own (move v r)) × (load weights own r + at weights v ≤ cap)
 Moved cap rows weights own (swap u v) = ⊥
 
+-- a swap, and a move, is a step with a gain
 pub swapped-gainful : (rows : List (List ℕ)) (own : List ℕ) (s : Step) → Swapped rows own s → Gainful rows own s
 swapped-gainful rows own (move v r) a = absurd a
 swapped-gainful rows own (swap u v) a = ((a .0, a .1), a .2)
@@ -144,7 +148,8 @@ module _ (b : Balance) (rows : List (List ℕ)) (weights : List ℕ) where
   target-some own v r e =
       let gains = ltb 0 (gain rows own (move v r)) in
       let joins = mayJoin b rows weights own v r in
-      let k = best-kept (preferred b rows weights own v) (λ r. ltb 0 (gain rows own (move v r)) && mayJoin b rows weights own v r) (range 0 (b .ranks)) r e in
+      let test : ℕ → Bool = λ r. ltb 0 (gain rows own (move v r)) && mayJoin b rows weights own v r in
+      let k : gains && joins ≡ true = best-kept (preferred b rows weights own v) test (range 0 (b .ranks)) r e in
       (ltb-true 0 (gain rows own (move v r)) (and-l gains joins k), leb-true (load weights own r + at weights v) (b .cap) (and-r gains joins k))
 
   -- where there is no target, no rank with room gains
@@ -165,13 +170,18 @@ module _ (b : Balance) (rows : List (List ℕ)) (weights : List ℕ) where
       (λ p. absurd (true≢false (rw (p, j) at f)))
       (λ p. let z = ltb-false 0 (gain rows own (move v r)) p in omega arith)
 
-  destination-some : (own : List ℕ) (v r : ℕ) → v < length rows → destination b rows weights own v ≡ some r → Moved (b .cap) rows weights own (move v r)
+  destination-some
+      : (own : List ℕ) (v r : ℕ) → v < length rows → destination b rows weights own v ≡ some r → Moved (b .cap) rows weights own (move v r)
   unfolding destination
   destination-some own v r h e = split (mayLeave b rows weights own v)
       (λ p. let t = target-some own v r (rw p at e) in (h, t .0, t .1))
       (λ p. let z : _≡_ {A = Option ℕ} none (some r) = rw p at e in let y : _≡_ {A = ℕ} 0 1 = cc in absurd (omega arith))
 
-  pass-moved : (vs : List ℕ) → All (λ v. v < length rows) vs → (own : List ℕ) → Along (Moved (b .cap) rows weights) after own (movePass b rows weights vs own)
+  pass-moved
+      : (vs : List ℕ)
+      → All (λ v. v < length rows) vs
+      → (own : List ℕ)
+      → Along (Moved (b .cap) rows weights) after own (movePass b rows weights vs own)
   unfolding movePass after
   pass-moved [] a own = tt
   pass-moved (v ∷ vs) a own = go (destination b rows weights own v) refl (pass-moved vs (a .1) own) (λ r. pass-moved vs (a .1) (set own v r))
@@ -192,14 +202,19 @@ module _ (b : Balance) (rows : List (List ℕ)) (weights : List ℕ) where
   pub moves-made : (passes : ℕ) (own : List ℕ) → Along (Moved (b .cap) rows weights) after own (refineByCut b rows weights passes own .steps)
   unfolding refineByCut
   moves-made passes own =
-      repeat-along (movePass b rows weights (vertices rows)) (Moved (b .cap) rows weights) (λ o. pass-moved (vertices rows) (all-vertices rows) o) passes own
+      let vs = vertices rows in
+      repeat-along (movePass b rows weights vs) (Moved (b .cap) rows weights) (λ o. pass-moved vs (all-vertices rows) o) passes own
 
   -- a refinement makes no more moves than there are cut links
   pub moves-few
-      : Sound rows → (passes : ℕ) (own : List ℕ) → length own ≡ length rows → length (refineByCut b rows weights passes own .steps) ≤ cutLinks rows own
+      : Sound rows
+      → (passes : ℕ) (own : List ℕ)
+      → length own ≡ length rows
+      → length (refineByCut b rows weights passes own .steps) ≤ cutLinks rows own
   moves-few s passes own n =
       let ss = refineByCut b rows weights passes own .steps in
-      let gainful = along-to (Moved (b .cap) rows weights) (Gainful rows) after (moved-gainful (b .cap) rows weights) ss own (moves-made passes own) in
+      let made = moves-made passes own in
+      let gainful = along-to (Moved (b .cap) rows weights) (Gainful rows) after (moved-gainful (b .cap) rows weights) ss own made in
       omega (arith, steps-cut rows s ss own n gainful)
 
   -- a pass without a move: no vertex had a destination
@@ -242,8 +257,10 @@ module _ (b : Balance) (rows : List (List ℕ)) (weights : List ℕ) where
       → cutLinks rows own ≤ cutLinks rows (after own (move v r))
   unfolding after destination mayLeave gain
   stays-best s own n q v r h k leaves joins =
+      let vs = vertices rows in
+      let in-range = elem-range v 0 (length rows) (omega arith) (omega arith) in
       let stays : destination b rows weights own v ≡ none =
-      all-in (λ v. destination b rows weights own v ≡ none) (vertices rows) v (pass-quiet (vertices rows) own q) (elem-range v 0 (length rows) (omega arith) (omega arith)) in
+      all-in (λ v. destination b rows weights own v ≡ none) vs v (pass-quiet vs own q) in-range in
       let l : mayLeave b rows weights own v ≡ true = le-leb _ _ leaves in
       omega (arith, target-none own v (rw l at stays) r k joins, move-cut rows s own v r h (rw n h))
 
@@ -274,19 +291,23 @@ module _ (listLength : ℕ) (rows : List (List ℕ)) where
       let ys = candidates listLength rows own y x in
       let test : Proposal → Bool = λ p. ltb 0 (p .net) in
       let make : Candidate → List Proposal = λ c. map (propose rows c) ys in
+      let one : (c : Candidate) → Seated rows c → All (Ranged rows) (make c) =
+      λ c h.
+      all-map (Ranged rows) (propose rows c) ys
+      (all-to (Seated rows) (λ d. Ranged rows (propose rows c d)) (λ d k. (h, k)) ys (candidates-seated own y x)) in
       all-sort (Ranged rows) sooner (filter test (concatMap make xs))
       (all-filter (Ranged rows) test (concatMap make xs)
       (all-concat (Ranged rows) make xs
-      (all-to (Seated rows) (λ c. All (Ranged rows) (make c))
-      (λ c h. all-map (Ranged rows) (propose rows c) ys (all-to (Seated rows) (λ d. Ranged rows (propose rows c d)) (λ d k. (h, k)) ys (candidates-seated own y x)))
-      xs (candidates-seated own x y))))
+      (all-to (Seated rows) (λ c. All (Ranged rows) (make c)) one xs (candidates-seated own x y))))
 
   all-ranged : (k : ℕ) (own : List ℕ) → All (Ranged rows) (allProposals listLength rows k own)
   unfolding allProposals
   all-ranged k own =
       let others : ℕ → List ℕ = λ a. range (suc a) (k - suc a) in
-      all-concat (Ranged rows) (λ a. concatMap (proposals listLength rows own a) (others a)) (range 0 k)
-      (to-all _ (λ a. all-concat (Ranged rows) (proposals listLength rows own a) (others a) (to-all _ (λ c. proposals-ranged own a c) (others a))) (range 0 k))
+      let of : ℕ → List Proposal = λ a. concatMap (proposals listLength rows own a) (others a) in
+      let one : (a : ℕ) → All (Ranged rows) (of a) =
+      λ a. all-concat (Ranged rows) (proposals listLength rows own a) (others a) (to-all _ (λ c. proposals-ranged own a c) (others a)) in
+      all-concat (Ranged rows) of (range 0 k) (to-all _ one (range 0 k))
 
 module _ (b : Balance) (rows : List (List ℕ)) (weights : List ℕ) where
   -- a swap that applies gains
@@ -299,7 +320,11 @@ module _ (b : Balance) (rows : List (List ℕ)) (weights : List ℕ) where
       let y = inBalance b rows weights own (at own v) in
       ltb-true 0 (gain rows own (swap u v)) (and-r a g (and-l (a && g) x (and-l (a && g && x) y e)))
 
-  pass-swapped : (ps : List Proposal) → All (Ranged rows) ps → (used own : List ℕ) → Along (Swapped rows) after own (swapPass b rows weights ps used own)
+  pass-swapped
+      : (ps : List Proposal)
+      → All (Ranged rows) ps
+      → (used own : List ℕ)
+      → Along (Swapped rows) after own (swapPass b rows weights ps used own)
   unfolding swapPass
   pass-swapped [] a used own = tt
   pass-swapped (p ∷ ps) a used own =

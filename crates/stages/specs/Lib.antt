@@ -7,3 +7,6 @@ pub mod Swaps
 pub mod SeedsCode
 pub mod FrontierCode
 pub mod GrowthCode
+pub mod CoarsenCode
+pub mod CoarsenParts
+pub mod MovesCode

@@ -5,5 +5,13 @@ mod seeds;
 
 pub use growth::Grown;
 pub use growth::weighted_multisource_partition;
+mod coarsen;
+mod level;
+mod moves;
+
+pub use coarsen::Coarsened;
+pub use coarsen::coarsen_once_cached;
 pub use level::HierarchyLevel;
 pub use level::Limits;
+pub use moves::Refined;
+pub use moves::refine_by_cut;

@@ -1,3 +1,4 @@
+-- The invariant: what src has in the places passed, and what was there from i on. Assumes nothing.
 use Prim.Native.Nat.{ℕ, _≤_, _-_}
 use mathlib.Core.Path.{_≡_, refl, ap, _∙_}
 use mathlib.Core.List.{List, _++_}

@@ -1,3 +1,4 @@
+-- A store through a part is a store. Assumes nothing.
 use mathlib.Core.Path.{ap, _∙_}
 use native.Mathlib.Omega.{arith}
 use Rattle.links.specs.Parts.{putBack}

@@ -1,0 +1,182 @@
+-- The sites by hand of 01, and the causes that come before the work, as two tables of claims. proofs/SiteLaws.antt proves each table by computation.
+-- Assumes nothing.
+use Prim.Native.Nat.{ℕ, _+_}
+use mathlib.Core.Bool.{_&&_, _||_}
+use mathlib.Core.List.{List, [], _∷_, map}
+use lib.ListN.{length}
+use lib.Dec.{eqb}
+use Rattle.links.specs.Lists.{filter, any, foldl, range, sum, concatMap}
+use Rattle.links.specs.Loads.{balance}
+use Rattle.links.specs.declared.options.AbtmMultilevelStats.{AbtmMultilevelStats}
+use Rattle.stages.specs.Moves.{Step, after}
+use Rattle.stages.specs.Swaps.{refineFinePairSwaps}
+use Rattle.multilevel.specs.Causes.{Call, workNeed}
+use Rattle.multilevel.specs.Division.{Outcome, refused, divided, division, finestWeights, listLength, swapPasses}
+
+-- n vertices and their links
+pub record Site : Type 0 where
+  pub n : ℕ
+  pub links : List (ℕ × ℕ)
+
+-- its rows, and offsets into them put one after the other
+abbrev pub rowsIn : Site → List (List ℕ)
+rowsIn s =
+    map
+    (λ v. filter (λ u. any (λ l. (eqb (l .0) v && eqb (l .1) u) || (eqb (l .0) u && eqb (l .1) v)) (s .links)) (range 0 (s .n)))
+    (range 0 (s .n))
+
+abbrev pub offsetsFrom : ℕ → List (List ℕ) → List ℕ
+offsetsFrom a [] = a ∷ []
+offsetsFrom a (r ∷ rs) = a ∷ offsetsFrom (a + length r) rs
+
+-- ---- calls
+
+-- lists, k, options (L, per crew, t, passes), and the lengths of the lent owner and work slices
+abbrev pub lent : List ℕ → List ℕ → ℕ → ℕ × ℕ × ℕ × ℕ → ℕ → ℕ → Call
+lent offsets neighbors k o owners work =
+    record {
+      offsets = offsets;
+      neighbors = neighbors;
+      ranks = k;
+      options =
+          record {
+            «max_levels» = o .0;
+            «coarse_vertices_per_rank» = o .1;
+            «imbalance_per_mille» = o .2;
+            «refinement_passes» = o .3;
+          };
+      ownersLength = owners;
+      workLength = work;
+    }
+
+-- a site's lists, with slices just long enough
+abbrev pub site : Site → ℕ → ℕ × ℕ × ℕ × ℕ → Call
+site s k o =
+    let neighbors = concatMap (λ r. r) (rowsIn s) in
+    lent (offsetsFrom 0 (rowsIn s)) neighbors k o (s .n) (workNeed (s .n) (length neighbors) k (o .0))
+
+-- ---- claims
+
+-- what is asked and what comes out
+pub data Claim : Type 0 where
+  -- a division ends so
+  ends : Call → Outcome → Claim
+  -- rule 7 alone, on a site with k ranks, tolerance t, passes and owners: so many swaps, and the owners that they leave
+  swaps : Site → ℕ → ℕ → ℕ → List ℕ → ℕ → List ℕ → Claim
+
+-- the swaps that rule 7 makes there
+unfoldable pub swapsOn : Site → ℕ → ℕ → ℕ → List ℕ → List Step
+swapsOn s k t passes owners =
+    let weights = finestWeights (rowsIn s) in
+    refineFinePairSwaps (balance (sum weights) k t) (rowsIn s) weights listLength (swapPasses passes) owners .steps
+
+-- what comes out, and what the claim says
+pub data Answer : Type 0 where
+  outcome : Outcome → Answer
+  swapped : ℕ → List ℕ → Answer
+
+abbrev pub found : Claim → Answer
+found (ends c o) = outcome (division c .outcome)
+found (swaps s k t passes before number owners) =
+    let made = swapsOn s k t passes before in
+    swapped (length made) (foldl after before made)
+
+abbrev pub stated : Claim → Answer
+stated (ends c o) = outcome o
+stated (swaps s k t passes before number owners) = swapped number owners
+
+-- levels, coarsest, pairs, singletons, restarts, moves, cut, volume
+abbrev pub stats : ℕ → ℕ → ℕ → ℕ → ℕ → ℕ → ℕ → ℕ → AbtmMultilevelStats
+stats levels coarsest pairs singletons restarts moves cut volume =
+    record {
+      «levels_built» = levels;
+      «coarsest_vertices» = coarsest;
+      «matched_pairs» = pairs;
+      «singleton_aggregates» = singletons;
+      «coarse_restarts» = restarts;
+      «refinement_moves» = moves;
+      «final_cut_nnz» = cut;
+      «final_communication_volume» = volume;
+    }
+
+-- ---- sites by hand
+
+-- "P4 is the path 0-1-2-3, S4 the star of hub 0 and leaves 1, 2, 3"
+abbrev pub P4 : Site
+P4 = record { n = 4; links = (0, 1) ∷ (1, 2) ∷ (2, 3) ∷ [] }
+
+abbrev pub S4 : Site
+S4 = record { n = 4; links = (0, 1) ∷ (0, 2) ∷ (0, 3) ∷ [] }
+
+-- the path of five
+abbrev pub P5 : Site
+P5 = record { n = 5; links = (0, 1) ∷ (1, 2) ∷ (2, 3) ∷ (3, 4) ∷ [] }
+
+-- "links 0-1, 2-3, 4-5"
+abbrev pub threePairs : Site
+threePairs = record { n = 6; links = (0, 1) ∷ (2, 3) ∷ (4, 5) ∷ [] }
+
+-- "four turbines, no links"
+abbrev pub alone : Site
+alone = record { n = 4; links = [] }
+
+-- "links 0-2, 1-3"
+abbrev pub crossed : Site
+crossed = record { n = 4; links = (0, 2) ∷ (1, 3) ∷ [] }
+
+-- every case of the list, starred or not
+unfoldable pub byHand : List Claim
+byHand =
+    ends (site P4 2 (12, 64, 30, 2)) (divided (0 ∷ 0 ∷ 1 ∷ 1 ∷ []) (stats 0 4 0 0 0 0 2 2))
+    ∷ ends (site P4 2 (12, 1, 30, 2)) (divided (0 ∷ 0 ∷ 1 ∷ 1 ∷ []) (stats 1 2 2 0 0 0 2 2))
+    ∷ ends (site P5 2 (12, 64, 199, 2)) (refused 8)
+    ∷ ends (site P5 2 (12, 64, 200, 2)) (divided (0 ∷ 0 ∷ 0 ∷ 1 ∷ 1 ∷ []) (stats 0 5 0 0 0 0 2 2))
+    ∷ ends (site P4 3 (12, 64, 500, 2)) (refused 9)
+    ∷ ends (site P4 3 (12, 64, 499, 2)) (refused 8)
+    ∷ ends (site S4 2 (1, 1, 30, 2)) (divided (0 ∷ 0 ∷ 1 ∷ 1 ∷ []) (stats 1 3 1 2 1 0 4 3))
+    ∷ ends (site S4 2 (12, 1, 499, 2)) (refused 6)
+    ∷ ends (site S4 2 (12, 1, 500, 2)) (divided (0 ∷ 0 ∷ 0 ∷ 1 ∷ []) (stats 2 2 2 3 0 0 2 2))
+    ∷ ends (site threePairs 4 (12, 1, 333, 2)) (refused 6)
+    ∷ ends (site threePairs 4 (12, 1, 334, 2)) (refused 7)
+    ∷ ends (site alone 2 (12, 1, 30, 2)) (divided (0 ∷ 1 ∷ 0 ∷ 1 ∷ []) (stats 0 4 0 0 2 0 0 0))
+    ∷ swaps crossed 2 30 2 (0 ∷ 0 ∷ 1 ∷ 1 ∷ []) 1 (1 ∷ 0 ∷ 1 ∷ 0 ∷ [])
+    ∷ []
+
+-- ---- causes 1 to 5, each on a call for which later causes hold too
+
+-- a link between two vertices; with L = 1 and k = 2 it needs 2 owners and 194 work numbers
+abbrev pub pairOffsets : List ℕ
+pairOffsets = 0 ∷ 1 ∷ 2 ∷ []
+
+abbrev pub pair : List ℕ
+pair = 1 ∷ 0 ∷ []
+
+-- by cause, in table order
+unfoldable pub early : List Claim
+early =
+    -- L, per crew or passes 0, t above 500
+    ends (lent pairOffsets pair 0 (0, 1, 30, 2) 2 194) (refused 1)
+    ∷ ends (lent pairOffsets pair 0 (1, 0, 30, 2) 2 194) (refused 1)
+    ∷ ends (lent pairOffsets pair 0 (1, 1, 30, 0) 2 194) (refused 1)
+    ∷ ends (lent pairOffsets pair 0 (1, 1, 501, 2) 2 194) (refused 1)
+    -- n = 0, k = 0, k > n
+    ∷ ends (lent [] pair 1 (33, 1, 30, 2) 2 194) (refused 2)
+    ∷ ends (lent pairOffsets pair 0 (33, 1, 30, 2) 2 194) (refused 2)
+    ∷ ends (lent pairOffsets pair 3 (33, 1, 30, 2) 2 194) (refused 2)
+    -- L above 32
+    ∷ ends (lent pairOffsets (0 ∷ 1 ∷ []) 2 (33, 1, 30, 2) 2 194) (refused 3)
+    -- offsets not from 0, falling, last ≠ m
+    ∷ ends (lent (1 ∷ 1 ∷ 2 ∷ []) pair 2 (1, 1, 30, 2) 0 0) (refused 4)
+    ∷ ends (lent (0 ∷ 2 ∷ 1 ∷ []) pair 2 (1, 1, 30, 2) 0 0) (refused 4)
+    ∷ ends (lent pairOffsets (1 ∷ 0 ∷ 0 ∷ []) 2 (1, 1, 30, 2) 0 0) (refused 4)
+    -- a list unsorted, repeated, self, ≥ n, not symmetric
+    ∷ ends (lent (0 ∷ 2 ∷ 3 ∷ 4 ∷ []) (2 ∷ 1 ∷ 0 ∷ 0 ∷ []) 2 (1, 1, 30, 2) 0 0) (refused 4)
+    ∷ ends (lent (0 ∷ 2 ∷ 4 ∷ []) (1 ∷ 1 ∷ 0 ∷ 0 ∷ []) 2 (1, 1, 30, 2) 0 0) (refused 4)
+    ∷ ends (lent pairOffsets (0 ∷ 1 ∷ []) 2 (1, 1, 30, 2) 0 0) (refused 4)
+    ∷ ends (lent pairOffsets (1 ∷ 2 ∷ []) 2 (1, 1, 30, 2) 0 0) (refused 4)
+    ∷ ends (lent (0 ∷ 1 ∷ 1 ∷ []) (1 ∷ []) 2 (1, 1, 30, 2) 0 0) (refused 4)
+    -- owners too short, work too short; and both just long enough
+    ∷ ends (lent pairOffsets pair 2 (1, 1, 30, 2) 1 194) (refused 5)
+    ∷ ends (lent pairOffsets pair 2 (1, 1, 30, 2) 2 193) (refused 5)
+    ∷ ends (lent pairOffsets pair 2 (1, 1, 30, 18446744073709551615) 2 194) (divided (0 ∷ 1 ∷ []) (stats 0 2 0 0 0 0 2 2))
+    ∷ []

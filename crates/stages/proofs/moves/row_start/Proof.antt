@@ -1,0 +1,27 @@
+-- An offset read by its place in the slice. Assumes nothing.
+use mathlib.Core.Path.{sym, _∙_}
+use Rattle.stages.proofs.MovesSliceLaws.{offset-place}
+use borrow.Author.Needs.{needs}
+use Rattle.stages.proofs.moves.row_start.Statement.{statement}
+use Rattle.stages.proofs.moves.row_start.Tie as tie
+
+add-index : tie.Need-add-index
+add-index c = search needs
+
+mul-index : tie.Need-mul-index
+mul-index c = search needs
+
+shared-slice-read-index : tie.Need-shared-slice-read-index
+shared-slice-read-index c = search needs
+
+index-requires : tie.Need-index-requires
+index-requires c κs = search needs
+
+returns : tie.Need-returns
+returns c =
+    let s = c .before .before .before in
+    c .index .ensures ∙ sym (offset-place (s .pre .0) (s .args .v) (s .pre .1))
+
+pub row-start-spec : {M : Type 1} → statement M
+row-start-spec =
+    tie.close (tie.spec add-index mul-index shared-slice-read-index index-requires returns)
