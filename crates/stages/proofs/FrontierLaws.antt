@@ -11,7 +11,7 @@ use lib.ListN.{length, set}
 use lib.Seq.{getD-set-same, getD-set-other, set-out}
 use lib.Dec.{leb, eqb}
 use borrow.Author.Tests.{eq-eqb, ne-eqb, eqb-true, eqb-false, leb-true, leb-false, le-leb}
-use Rattle.links.specs.Lists.{at, unassigned, filter, sum}
+use Rattle.links.specs.Lists.{at, unassigned, filter}
 use Rattle.links.specs.Graph.{load}
 use Rattle.links.proofs.ListLaws.{split, and-l, and-r, and-i}
 use Rattle.stages.specs.Growth.{pop, unowned}
@@ -87,13 +87,6 @@ load-other [] os g r d e h o′ = refl
 load-other (w ∷ ws) [] g r d e h o′ = refl
 load-other (w ∷ ws) (o ∷ os) zero r d e h o′ = rw (ne-eqb o d (λ q. h (sym q ∙ e)), ne-eqb r d (λ q. o′ (sym q)))
 load-other (w ∷ ws) (o ∷ os) (suc g) r d e h o′ = rw (load-other ws os g r d e h o′)
-
--- a load is a part of the sum
-pub load-sum : (ws os : List ℕ) (r : ℕ) → load ws os r ≤ sum ws
-unfolding load
-load-sum [] os r = omega arith
-load-sum (w ∷ ws) [] r = omega arith
-load-sum (w ∷ ws) (o ∷ os) r = split (eqb o r) (λ p. rw p (omega (arith, load-sum ws os r))) (λ p. rw p (omega (arith, load-sum ws os r)))
 
 -- ---- what is open
 

@@ -21,7 +21,8 @@ use Rattle.stages.specs.FrontierCode.{opens, front, higher, Chain, Sough
 use Rattle.stages.specs.GrowthCode.{openIn, SoughtIn, restartIn, Advanced, Claimed, TurnMade}
 use Rattle.stages.specs.declared.growth.GrowthRoom.{GrowthRoom}
 use Rattle.stages.proofs.GrowthLaws.{unowned-in}
-use Rattle.stages.proofs.FrontierLaws.{open-facts, load-claim, load-sum}
+use Rattle.stages.proofs.LoadSetLaws.{load-joins}
+use Rattle.stages.proofs.FrontierLaws.{open-facts}
 use Rattle.stages.proofs.ChainLaws.{at-end, at-open, head-in}
 use Rattle.stages.proofs.GrowthMemoryLaws.{below-same, outside-trans, laid-after, read-load, read-head, read-place, read-count}
 use Rattle.stages.proofs.GrowthStateLaws.{Step, good-step, front-there, park-step, park-front, begin-step, begin-front, append-step, append-front, tail-facts}
@@ -218,8 +219,7 @@ module _ {l : GrowthRoom} {w : List ℕ} (cap r g : ℕ) (d : GrowthReady l w) (
   -- a load is a part of all weights, so it fits
   pub claim-pre : (g < l .level .vertices) × (at (memoryIn l w .loads) r + at (weightsIn l w) g < 2 ^ 32)
   claim-pre =
-      let a = load-claim (weightsIn l w) (memoryIn l w .owners) g r free (λ e. omega (arith, few-ranks)) (unowned-in (memoryIn l w .owners) g free) in
-      let b = load-sum (weightsIn l w) (set (memoryIn l w .owners) g r) r in
+      let a = load-joins (weightsIn l w) (memoryIn l w .owners) g r (unowned-in (memoryIn l w .owners) g free) (λ e. omega (arith, free, few-ranks)) in
       (omega (arith, in-rows, rows-all l w (d .laid)), omega (arith, d .good .loads-are r q, d .light))
 
   abbrev owned : Memory

@@ -1,6 +1,6 @@
 -- The whole growth stage: rule 4's seeds are sown, and growth from there is what the stage tells. Assumes nothing.
 use mathlib.Core.Path.{_≡_, sym, ap, ap₂, _∙_, subst}
-use mathlib.Core.Bool.{true, false, cond, true≢false}
+use mathlib.Core.Bool.{true, false, true≢false}
 use mathlib.Core.List.{List, [], _∷_, _++_}
 use Prim.Native.Nat.{ℕ, zero, suc, _+_, _*_, _≤_, _<_}
 use native.Mathlib.Omega.{arith}
@@ -23,9 +23,9 @@ use Rattle.stages.specs.declared.level.HierarchyLevel.{HierarchyLevel}
 use Rattle.stages.specs.declared.growth.Grown.{Grown}
 use Rattle.stages.specs.declared.growth.Grown.the-variants as variant
 use Rattle.stages.proofs.GrowthLaws.{length-seeds}
-use Rattle.stages.proofs.ReadyLaws.{rows-kept, weights-kept, ready-kept}
+use Rattle.stages.proofs.LevelLaws.{all-vertices, rows-kept, weights-kept, ready-kept}
 use Rattle.stages.proofs.SearchLaws.{in-getD}
-use Rattle.stages.proofs.SeedsLaws.{next-fresh, rows-length}
+use Rattle.stages.proofs.SeedsLaws.{next-fresh}
 
 -- ---- rule 4's seeds: as many as asked for, vertices, all different
 
@@ -85,8 +85,8 @@ module _ (rows : List (List ℕ)) where
 number-of : (n e : ℕ) → grownNumber (grownAnswer n e) ≡ n
 number-of n e = split (eqb n 0) (λ p. rw p (sym (eqb-true n 0 p))) (λ p. rw p)
 
-value-of : (n e : ℕ) → grownValue (grownAnswer n e) ≡ cond (eqb n 0) e 0
-value-of n e = split (eqb n 0) (λ p. rw p) (λ p. rw p)
+value-of : (n e : ℕ) → n ≡ 0 → grownValue (grownAnswer n e) ≡ e
+value-of n e z = rw z
 
 told
     : (w w′ : List ℕ) (l : HierarchyLevel) (s k cap : ℕ) (r : Grown)
@@ -97,17 +97,18 @@ told
 told w w′ l s k cap r a o kept =
     let n = growthCause w l k cap in
     let e = restartCount (growthAt w l k cap .turns) in
+    let number : grownNumber r ≡ n = ap grownNumber a ∙ number-of n e in
     record {
       answer = a;
-      number = ap grownNumber a ∙ number-of n e;
-      value = ap grownValue a ∙ value-of n e;
+      number = number;
+      value = λ z. ap grownValue a ∙ value-of n e (sym number ∙ z);
       owners = o;
       kept = kept;
     }
 
 module _ {w : List ℕ} {l : HierarchyLevel} {s k : ℕ} (P : Growable w l s k) where
   n-is : length (rowsAt w l) ≡ l .vertices
-  n-is = rows-length (P .level) (omega (arith, P .room))
+  n-is = all-vertices w l s (P .level)
 
   pub weights-fit : l .weights + l .vertices ≤ length w
   weights-fit = let L = P .level in omega arith
@@ -171,11 +172,11 @@ module _ {w : List ℕ} {l : HierarchyLevel} {s k : ℕ} (P : Growable w l s k) 
         }
 
     module _ {w₁ : List ℕ} (S : Seeded w w₁ l s k) where
-      below : l .owners ≤ s
+      below : l .weights + l .vertices ≤ s
       below = let L = P .level .laid in omega arith
 
       ready : Ready w₁ l s
-      ready = ready-kept (P .level) below (S .kept)
+      ready = ready-kept w w₁ l s s (s + 2 * l .vertices + k) (P .level .laid) below (S .kept) (P .level)
 
       pub sown : Sown (roomAt l s k) w₁
       unfolding roomAt
@@ -192,7 +193,7 @@ module _ {w : List ℕ} {l : HierarchyLevel} {s k : ℕ} (P : Growable w l s k) 
       growth-is : (cap : ℕ) → growthIn cap (roomAt l s k) w₁ ≡ growthAt w l k cap
       unfolding roomAt rowsIn
       growth-is cap =
-          ap₂ (λ (R : List (List ℕ)) (W : List ℕ). weightedMultisource cap R W (part w₁ (s + 2 * l .vertices) (s + 2 * l .vertices + k))) (rows-kept (P .level .laid) below (S .kept)) (weights-kept (P .level .laid) below (S .kept))
+          ap₂ (λ (R : List (List ℕ)) (W : List ℕ). weightedMultisource cap R W (part w₁ (s + 2 * l .vertices) (s + 2 * l .vertices + k))) (rows-kept w w₁ l s s (s + 2 * l .vertices + k) (P .level .laid) below (S .kept)) (weights-kept w w₁ l s s (s + 2 * l .vertices + k) (P .level .laid) below (S .kept))
           ∙ ap (weightedMultisource cap (rowsAt w l) (weightsAt w l)) (S .chosen)
 
       pub told-grown : (cap : ℕ) {w₂ : List ℕ} {r : Grown} → tooHeavy cap (weightsAt w l) ≡ false → Multisource (roomAt l s k) cap w₁ w₂ r → GrownTold w w₂ l s k cap r

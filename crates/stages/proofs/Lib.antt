@@ -24,7 +24,6 @@ pub mod GrowthTurnLaws
 pub mod GrowthSliceLaws
 pub mod GrowthRoundLaws
 pub mod GrowthStartLaws
-pub mod ReadyLaws
 pub mod GrowthStageLaws
 pub mod RankLaws
 pub mod LevelLaws

@@ -1,16 +1,14 @@
 // The five stages of a division: coarsening, seeds, growth, moves, swaps (rules 3 to 7 of document 01), over one lent work slice.
+mod coarsen;
 mod growth;
 mod level;
-mod seeds;
-
-pub use growth::Grown;
-pub use growth::weighted_multisource_partition;
-mod coarsen;
-mod level;
 mod moves;
+mod seeds;
 
 pub use coarsen::Coarsened;
 pub use coarsen::coarsen_once_cached;
+pub use growth::Grown;
+pub use growth::weighted_multisource_partition;
 pub use level::HierarchyLevel;
 pub use level::Limits;
 pub use moves::Refined;
