@@ -119,13 +119,13 @@ module _ (rows : List (List ℕ)) (links : List ℕ) (h p n : ℕ) where
   rest = concatMap (row rows) (cells links (at links h) n)
 
   -- a candidate of the first row
-  pub front-here : p < degree rows h → front rows links h p (suc n) ≡ at (row rows h) p ∷ front rows links h (p + 1) (suc n)
+  front-here : p < degree rows h → front rows links h p (suc n) ≡ at (row rows h) p ∷ front rows links h (p + 1) (suc n)
   unfolding front cells rest
   front-here l =
       rw (drop-append-le p (row rows h) rest (omega arith), drop-append-le (p + 1) (row rows h) rest (omega arith), drop-cons (row rows h) p 0 l, add-one)
 
   -- the first row is done with
-  pub front-next : p ≡ degree rows h → front rows links h p (suc n) ≡ front rows links (at links h) 0 n
+  front-next : p ≡ degree rows h → front rows links h p (suc n) ≡ front rows links (at links h) 0 n
   unfolding front cells rest
   front-next e = drop-at (row rows h) rest p (sym e)
 

@@ -30,18 +30,18 @@ unfolding passing
 passing-le p zero = omega arith
 passing-le p (suc n) = omega (arith, tally-one (p n), passing-le p n)
 
-pub passing-mono : (p q : ℕ → Bool) (n : ℕ) → ((i : ℕ) → i < n → p i ≡ true → q i ≡ true) → passing p n ≤ passing q n
+passing-mono : (p q : ℕ → Bool) (n : ℕ) → ((i : ℕ) → i < n → p i ≡ true → q i ≡ true) → passing p n ≤ passing q n
 unfolding passing
 passing-mono p q zero f = omega arith
 passing-mono p q (suc n) f = omega (arith, tally-le (p n) (q n) (f n (omega arith)), passing-mono p q n (λ i h. f i (omega arith)))
 
-pub passing-ext : (p q : ℕ → Bool) (n : ℕ) → ((i : ℕ) → i < n → p i ≡ q i) → passing p n ≡ passing q n
+passing-ext : (p q : ℕ → Bool) (n : ℕ) → ((i : ℕ) → i < n → p i ≡ q i) → passing p n ≡ passing q n
 unfolding passing
 passing-ext p q zero f = refl
 passing-ext p q (suc n) f = rw (f n (omega arith), passing-ext p q n (λ i h. f i (omega arith)))
 
 -- q passes w too, which p does not
-pub passing-more : (p q : ℕ → Bool) (n w : ℕ) → w < n → p w ≡ false → q w ≡ true → ((i : ℕ) → i < n → (i ≡ w → ⊥) → p i ≡ true → q i ≡ true) → suc (passing p n) ≤ passing q n
+passing-more : (p q : ℕ → Bool) (n w : ℕ) → w < n → p w ≡ false → q w ≡ true → ((i : ℕ) → i < n → (i ≡ w → ⊥) → p i ≡ true → q i ≡ true) → suc (passing p n) ≤ passing q n
 unfolding passing
 passing-more p q zero w h a b f = absurd (omega arith)
 passing-more p q (suc n) w h a b f = split (eqb w n)
@@ -132,7 +132,7 @@ module _ (rows : List (List ℕ)) (sound : Sound rows) where
         (λ p. let z = eqb-true (e v) 0 p in omega (arith, D .at-seeds v h (E .seeds-only v h z)))
         (λ p. let z = eqb-false (e v) 0 p in step k v (no-further k) h l f (E .nearer v h (omega arith) f))
 
-    pub no-more : (v : ℕ) → v < length rows → d v ≤ e v
+    no-more : (v : ℕ) → v < length rows → d v ≤ e v
     no-more v h = split (ltb (e v) unassigned)
         (λ p. no-further (e v) v h (omega arith) (ltb-true (e v) unassigned p))
         (λ p. omega (arith, ltb-false (e v) unassigned p, D .most v h))
@@ -140,7 +140,7 @@ module _ (rows : List (List ℕ)) (sound : Sound rows) where
   pub unique : (seeds : List ℕ) (d e : ℕ → ℕ) → Distance rows seeds d → Distance rows seeds e → (v : ℕ) → v < length rows → d v ≡ e v
   unique seeds d e D E v h = omega (arith, no-more seeds d e D E v h, no-more seeds e d E D v h)
 
-pub at-map : (f : ℕ → ℕ) (i n v : ℕ) → v < n → at (map f (range i n)) v ≡ f (i + v)
+at-map : (f : ℕ → ℕ) (i n v : ℕ) → v < n → at (map f (range i n)) v ≡ f (i + v)
 at-map f i zero v h = absurd (omega arith)
 at-map f i (suc n) zero h = ap f (omega arith)
 at-map f i (suc n) (suc v) h = at-map f (suc i) n v (omega arith) ∙ ap f (omega arith)
@@ -257,9 +257,9 @@ module _ (rows : List (List ℕ)) (sound : Sound rows) (seeds : List ℕ) (few :
   }
 
   -- rule 4's distances have the properties
-  pub distances-distance : Distance rows seeds (at (distances rows seeds))
+  pub distances-hold : Distance rows seeds (at (distances rows seeds))
   unfolding distances first
-  distances-distance =
+  distances-hold =
       let U = rounds (length rows) 0 first (omega arith) at-first in
       let d : ℕ → ℕ = at (distances rows seeds) in
       record {
@@ -285,4 +285,4 @@ module _ (rows : List (List ℕ)) (sound : Sound rows) (seeds : List ℕ) (few :
 
   -- whatever has the properties is rule 4's distances
   pub distances-are : (d : List ℕ) → length d ≡ length rows → Distance rows seeds (at d) → d ≡ distances rows seeds
-  distances-are d e L = ext-getD 0 d (distances rows seeds) (e ∙ sym distances-length) (λ i h. unique rows sound seeds (at d) (at (distances rows seeds)) L distances-distance i (rw e at h))
+  distances-are d e L = ext-getD 0 d (distances rows seeds) (e ∙ sym distances-length) (λ i h. unique rows sound seeds (at d) (at (distances rows seeds)) L distances-hold i (rw e at h))

@@ -11,7 +11,7 @@ use lib.ListN.{length, set}
 use lib.Seq.{getD-set-same, getD-set-other, set-out}
 use lib.Dec.{leb, eqb}
 use borrow.Author.Tests.{eq-eqb, ne-eqb, eqb-true, eqb-false, leb-true, leb-false, le-leb}
-use Rattle.links.specs.Lists.{at, unassigned, filter, sum}
+use Rattle.links.specs.Lists.{at, unassigned, filter}
 use Rattle.links.specs.Graph.{load}
 use Rattle.links.proofs.ListLaws.{split, and-l, and-r, and-i}
 use Rattle.stages.specs.Growth.{pop, unowned}
@@ -66,7 +66,7 @@ module _ (free fit : ℕ → Bool) where
 -- ---- loads
 
 -- they only grow
-pub load-more : (ws os : List ℕ) (g r d : ℕ) → at os g ≡ unassigned → d ≢ unassigned → load ws os d ≤ load ws (set os g r) d
+load-more : (ws os : List ℕ) (g r d : ℕ) → at os g ≡ unassigned → d ≢ unassigned → load ws os d ≤ load ws (set os g r) d
 unfolding load
 load-more [] os g r d e h = omega arith
 load-more (w ∷ ws) [] g r d e h = omega arith
@@ -88,17 +88,10 @@ load-other (w ∷ ws) [] g r d e h o′ = refl
 load-other (w ∷ ws) (o ∷ os) zero r d e h o′ = rw (ne-eqb o d (λ q. h (sym q ∙ e)), ne-eqb r d (λ q. o′ (sym q)))
 load-other (w ∷ ws) (o ∷ os) (suc g) r d e h o′ = rw (load-other ws os g r d e h o′)
 
--- a load is a part of the sum
-pub load-sum : (ws os : List ℕ) (r : ℕ) → load ws os r ≤ sum ws
-unfolding load
-load-sum [] os r = omega arith
-load-sum (w ∷ ws) [] r = omega arith
-load-sum (w ∷ ws) (o ∷ os) r = split (eqb o r) (λ p. rw p (omega (arith, load-sum ws os r))) (λ p. rw p (omega (arith, load-sum ws os r)))
-
 -- ---- what is open
 
 -- what was owned stays so
-pub unowned-before : (os : List ℕ) (g r x : ℕ) → r ≢ unassigned → unowned (set os g r) x ≡ true → unowned os x ≡ true
+unowned-before : (os : List ℕ) (g r x : ℕ) → r ≢ unassigned → unowned (set os g r) x ≡ true → unowned os x ≡ true
 unowned-before os g r x h e = split (eqb x g)
     (λ p. let q : x ≡ g = eqb-true x g p in
     split (leb (suc g) (length os))

@@ -18,10 +18,11 @@ use Rattle.links.proofs.RowLaws.{length-rows}
 use Rattle.stages.specs.Level.{offsetsAt, neighborsAt, ownersAt}
 use Rattle.stages.specs.Growth.{restart}
 use Rattle.stages.specs.FrontierCode.{opens, front, higher, Chain, Sought, candidateAt, Lent, Memory, memory, rowsIn, weightsIn, linksIn, memoryIn, GrowthLaid, Outside, frontOf, Good, Stands, parked, owning, begun, appended, GrowthReady, Stored}
-use Rattle.stages.specs.GrowthCode.{openIn, Advanced, Claimed, TurnMade}
+use Rattle.stages.specs.GrowthCode.{openIn, SoughtIn, restartIn, Advanced, Claimed, TurnMade}
 use Rattle.stages.specs.declared.growth.GrowthRoom.{GrowthRoom}
 use Rattle.stages.proofs.GrowthLaws.{unowned-in}
-use Rattle.stages.proofs.FrontierLaws.{open-facts, load-claim, load-sum}
+use Rattle.stages.proofs.LoadSetLaws.{load-joins}
+use Rattle.stages.proofs.FrontierLaws.{open-facts}
 use Rattle.stages.proofs.ChainLaws.{at-end, at-open, head-in}
 use Rattle.stages.proofs.GrowthMemoryLaws.{below-same, outside-trans, laid-after, read-load, read-head, read-place, read-count}
 use Rattle.stages.proofs.GrowthStateLaws.{Step, good-step, front-there, park-step, park-front, begin-step, begin-front, append-step, append-front, tail-facts}
@@ -33,10 +34,10 @@ module _ (l : GrowthRoom) (w : List ℕ) (h : GrowthLaid l (length w)) where
   pub n-is : vertexCount (offsetsAt w (l .level)) ≡ l .level .vertices
   n-is = omega (arith, length-part w (l .level .offsets) (l .level .offsets + (l .level .vertices + 1)) (omega arith) (omega arith))
 
-  pub weights-length : length (weightsIn l w) ≡ l .level .vertices
+  weights-length : length (weightsIn l w) ≡ l .level .vertices
   weights-length = length-part w (l .level .weights) (l .level .weights + l .level .vertices) (omega arith) (omega arith) ∙ omega arith
 
-  pub owners-length : length (ownersAt w (l .level)) ≡ l .level .vertices
+  owners-length : length (ownersAt w (l .level)) ≡ l .level .vertices
   owners-length = length-part w (l .level .owners) (l .level .owners + l .level .vertices) (omega arith) (omega arith) ∙ omega arith
 
   pub links-length : length (linksIn l w) ≡ vertexCount (offsetsAt w (l .level))
@@ -64,8 +65,7 @@ module _ {l : GrowthRoom} {w : List ℕ} (d : GrowthReady l w) (r : ℕ) (q : r 
       : (cap h p n : ℕ)
       → Sought lists-rows (linksIn l w) (opens cap (weightsIn l w) (ownersAt w (l .level)) (at w (l .loads + r))) (vertexCount (offsetsAt w (l .level)))
       (at w (l .heads + r)) (at w (l .places + r)) (at w (l .counts + r)) h p n
-      → Sought (rowsIn l w) (memoryIn l w .links) (opens cap (weightsIn l w) (memoryIn l w .owners) (at (memoryIn l w .loads) r)) (l .level .vertices)
-      (at (memoryIn l w .heads) r) (at (memoryIn l w .places) r) (at (memoryIn l w .counts) r) h p n
+      → SoughtIn cap l w r h p n
   unfolding memoryIn memory rowsIn
   seek-post cap h p n s =
       rw (n-is l w (d .laid), read-load w (d .laid) r q, read-head w (d .laid) r q, read-place w (d .laid) r q, read-count w (d .laid) r q) at s
@@ -73,7 +73,7 @@ module _ {l : GrowthRoom} {w : List ℕ} (d : GrowthReady l w) (r : ℕ) (q : r 
   pub restart-post
       : (cap g : ℕ)
       → held g ≡ best (higher lists-rows) (filter (opens cap (weightsIn l w) (ownersAt w (l .level)) (at w (l .loads + r))) (range 0 (vertexCount (offsetsAt w (l .level)))))
-      → held g ≡ best (higher (rowsIn l w)) (filter (opens cap (weightsIn l w) (memoryIn l w .owners) (at (memoryIn l w .loads) r)) (range 0 (l .level .vertices)))
+      → held g ≡ restartIn cap l w r
   unfolding memoryIn memory rowsIn
   restart-post cap g e = rw (n-is l w (d .laid), read-load w (d .laid) r q) at e
 
@@ -114,7 +114,7 @@ module _ {l : GrowthRoom} {w w′ : List ℕ} (h : GrowthLaid l (length w)) (o :
       subst (λ (a : List ℕ). SoundLists a (neighborsAt w′ (l .level))) (sym offsets-same)
       (subst (λ (b : List ℕ). SoundLists (offsetsAt w (l .level)) b) (sym neighbors-same) s)
 
-  pub good-same : Good (rowsIn l w) (weightsIn l w) (l .ranks) (memoryIn l w′) → Good (rowsIn l w′) (weightsIn l w′) (l .ranks) (memoryIn l w′)
+  good-same : Good (rowsIn l w) (weightsIn l w) (l .ranks) (memoryIn l w′) → Good (rowsIn l w′) (weightsIn l w′) (l .ranks) (memoryIn l w′)
   good-same g =
       subst (λ (a : List (List ℕ)). Good a (weightsIn l w′) (l .ranks) (memoryIn l w′)) (sym rows-same)
       (subst (λ (b : List ℕ). Good (rowsIn l w) b (l .ranks) (memoryIn l w′)) (sym weights-same) g)
@@ -144,7 +144,7 @@ ready-step {l} {w} d s t = ready-after d (s .outside) (subst (Good (rowsIn l w) 
 -- ---- the frontier is brought to its first open candidate
 
 module _ {l : GrowthRoom} {w : List ℕ} (cap r : ℕ) {h p n : ℕ} (d : GrowthReady l w) (q : r < l .ranks)
-    (t : Sought (rowsIn l w) (memoryIn l w .links) (opens cap (weightsIn l w) (memoryIn l w .owners) (at (memoryIn l w .loads) r)) (l .level .vertices) (at (memoryIn l w .heads) r) (at (memoryIn l w .places) r) (at (memoryIn l w .counts) r) h p n) where
+    (t : SoughtIn cap l w r h p n) where
   abbrev ok : ℕ → Bool
   ok = openTo cap (weightsIn l w) (memoryIn l w .owners) r
 
@@ -219,8 +219,7 @@ module _ {l : GrowthRoom} {w : List ℕ} (cap r g : ℕ) (d : GrowthReady l w) (
   -- a load is a part of all weights, so it fits
   pub claim-pre : (g < l .level .vertices) × (at (memoryIn l w .loads) r + at (weightsIn l w) g < 2 ^ 32)
   claim-pre =
-      let a = load-claim (weightsIn l w) (memoryIn l w .owners) g r free (λ e. omega (arith, few-ranks)) (unowned-in (memoryIn l w .owners) g free) in
-      let b = load-sum (weightsIn l w) (set (memoryIn l w .owners) g r) r in
+      let a = load-joins (weightsIn l w) (memoryIn l w .owners) g r (unowned-in (memoryIn l w .owners) g free) (λ e. omega (arith, free, few-ranks)) in
       (omega (arith, in-rows, rows-all l w (d .laid)), omega (arith, d .good .loads-are r q, d .light))
 
   abbrev owned : Memory
@@ -290,7 +289,7 @@ module _ {l : GrowthRoom} {w : List ℕ} (cap r g : ℕ) (d : GrowthReady l w) (
 -- ---- a turn
 
 module _ {l : GrowthRoom} {w : List ℕ} (cap r : ℕ) (d : GrowthReady l w) (q : r < l .ranks) (f : ℕ)
-    (e : held f ≡ best (higher (rowsIn l w)) (filter (opens cap (weightsIn l w) (memoryIn l w .owners) (at (memoryIn l w .loads) r)) (range 0 (l .level .vertices)))) where
+    (e : held f ≡ restartIn cap l w r) where
   restart-held : restart cap (rowsIn l w) (weightsIn l w) (memoryIn l w .owners) r ≡ held f
   restart-held =
       restart-is cap (rowsIn l w) (weightsIn l w) (memoryIn l w .owners) r

@@ -2,19 +2,18 @@
 use mathlib.Core.Path.{_≡_, sym, ap, ap₂, _∙_, subst}
 use mathlib.Core.Bool.{true, false, true≢false}
 use mathlib.Core.List.{List, [], _∷_, _++_}
-use Prim.Native.Nat.{ℕ, zero, suc, _+_, _*_, _≤_, _<_, _^_}
+use Prim.Native.Nat.{ℕ, zero, suc, _+_, _*_, _≤_, _<_}
 use native.Mathlib.Omega.{arith}
 use lib.Dec.{eqb, ltb}
 use lib.ListN.{length, List·getD-append}
 use lib.Seq.{getD-at}
 use borrow.Author.Tests.{eqb-true, le-ltb, lt-ltb, ltb-true, ltb-false}
-use Rattle.links.specs.Lists.{at, All, elem, sum}
+use Rattle.links.specs.Lists.{at, All, elem}
 use Rattle.links.specs.Parts.{part, Kept}
-use Rattle.links.specs.Graph.{rowsOf, SoundLists}
 use Rattle.links.proofs.ListLaws.{split, all-append}
-use Rattle.links.proofs.PartLaws.{kept-refl, kept-part-before}
+use Rattle.links.proofs.PartLaws.{kept-refl}
 use Rattle.links.proofs.RowLaws.{all-place}
-use Rattle.stages.specs.Level.{offsetsAt, neighborsAt, rowsAt, weightsAt, ownersAt}
+use Rattle.stages.specs.Level.{Ready, rowsAt, weightsAt, ownersAt}
 use Rattle.stages.specs.Seeds.{nextSeed, farthestSeeds}
 use Rattle.stages.specs.SeedsCode.{Seedable, Seeded}
 use Rattle.stages.specs.Growth.{Growth, weightedMultisource, grown, restartCount}
@@ -24,8 +23,9 @@ use Rattle.stages.specs.declared.level.HierarchyLevel.{HierarchyLevel}
 use Rattle.stages.specs.declared.growth.Grown.{Grown}
 use Rattle.stages.specs.declared.growth.Grown.the-variants as variant
 use Rattle.stages.proofs.GrowthLaws.{length-seeds}
+use Rattle.stages.proofs.LevelLaws.{all-vertices, rows-kept, weights-kept, ready-kept}
 use Rattle.stages.proofs.SearchLaws.{in-getD}
-use Rattle.stages.proofs.SeedsLaws.{next-fresh, rows-length}
+use Rattle.stages.proofs.SeedsLaws.{next-fresh}
 
 -- ---- rule 4's seeds: as many as asked for, vertices, all different
 
@@ -108,7 +108,7 @@ told w w′ l s k cap r a o kept =
 
 module _ {w : List ℕ} {l : HierarchyLevel} {s k : ℕ} (P : Growable w l s k) where
   n-is : length (rowsAt w l) ≡ l .vertices
-  n-is = rows-length (P .level) (omega (arith, P .room))
+  n-is = all-vertices w l s (P .level)
 
   pub weights-fit : l .weights + l .vertices ≤ length w
   weights-fit = let L = P .level in omega arith
@@ -172,26 +172,18 @@ module _ {w : List ℕ} {l : HierarchyLevel} {s k : ℕ} (P : Growable w l s k) 
         }
 
     module _ {w₁ : List ℕ} (S : Seeded w w₁ l s k) where
-      part-same : (a e : ℕ) → e ≤ s → part w₁ a e ≡ part w a e
-      part-same a e h = kept-part-before s (s + 2 * l .vertices + k) w₁ w (S .kept) a e h
+      below : l .weights + l .vertices ≤ s
+      below = let L = P .level .laid in omega arith
 
-      offsets-same : offsetsAt w₁ l ≡ offsetsAt w l
-      offsets-same = let L = P .level .laid in part-same (l .offsets) (l .offsets + (l .vertices + 1)) (omega arith)
-
-      neighbors-same : neighborsAt w₁ l ≡ neighborsAt w l
-      neighbors-same = let L = P .level .laid in part-same (l .neighbors) (l .neighbors + l .entries) (omega arith)
-
-      weights-same : weightsAt w₁ l ≡ weightsAt w l
-      weights-same = let L = P .level .laid in part-same (l .weights) (l .weights + l .vertices) (omega arith)
+      ready : Ready w₁ l s
+      ready = ready-kept w w₁ l s s (s + 2 * l .vertices + k) (P .level .laid) below (S .kept) (P .level)
 
       pub sown : Sown (roomAt l s k) w₁
       unfolding roomAt
       sown = record {
         laid = laid (length w₁) (S .kept .same-length);
-        lists =
-            subst (λ (a : List ℕ). SoundLists a (neighborsAt w₁ l)) (sym offsets-same)
-            (subst (λ (b : List ℕ). SoundLists (offsetsAt w l) b) (sym neighbors-same) (P .level .lists));
-        light = subst (λ (x : List ℕ). sum x < 2 ^ 31) (sym weights-same) (P .level .light);
+        lists = ready .lists;
+        light = ready .light;
         seeds =
             subst (Seeds (l .vertices) k) (sym (S .chosen))
             (subst (λ (n : ℕ). Seeds n k (farthestSeeds (rowsAt w l) k)) n-is (seeds-good (rowsAt w l) k (omega (arith, n-is))));
@@ -201,7 +193,7 @@ module _ {w : List ℕ} {l : HierarchyLevel} {s k : ℕ} (P : Growable w l s k) 
       growth-is : (cap : ℕ) → growthIn cap (roomAt l s k) w₁ ≡ growthAt w l k cap
       unfolding roomAt rowsIn
       growth-is cap =
-          ap₂ (λ (R : List (List ℕ)) (W : List ℕ). weightedMultisource cap R W (part w₁ (s + 2 * l .vertices) (s + 2 * l .vertices + k))) (ap₂ rowsOf offsets-same neighbors-same) weights-same
+          ap₂ (λ (R : List (List ℕ)) (W : List ℕ). weightedMultisource cap R W (part w₁ (s + 2 * l .vertices) (s + 2 * l .vertices + k))) (rows-kept w w₁ l s s (s + 2 * l .vertices + k) (P .level .laid) below (S .kept)) (weights-kept w w₁ l s s (s + 2 * l .vertices + k) (P .level .laid) below (S .kept))
           ∙ ap (weightedMultisource cap (rowsAt w l) (weightsAt w l)) (S .chosen)
 
       pub told-grown : (cap : ℕ) {w₂ : List ℕ} {r : Grown} → tooHeavy cap (weightsAt w l) ≡ false → Multisource (roomAt l s k) cap w₁ w₂ r → GrownTold w w₂ l s k cap r

@@ -48,7 +48,7 @@ module _ (w w′ : List ℕ) (a n x : ℕ) (h : a + n ≤ length w) (e : w′ �
       ∙ part-putBack w a (a + n) (replicate (a + n - a) x) (omega arith) h size
       ∙ ap (λ (m : ℕ). replicate m x) z
 
-pub sown-after : {l : GrowthRoom} {w w′ : List ℕ} → Sown l w → Outside l w w′ → Sown l w′
+sown-after : {l : GrowthRoom} {w w′ : List ℕ} → Sown l w → Outside l w w′ → Sown l w′
 sown-after {l} S o =
     let L = S .laid in
     record {
@@ -67,9 +67,6 @@ module _ {l : GrowthRoom} {w w₁ w₂ w₃ : List ℕ} (S : Sown l w)
 
   abbrev n₁ : ℕ
   n₁ = l .level .vertices
-
-  L₀ : GrowthLaid l (length w)
-  L₀ = S .laid
 
   fit₁ : l .level .owners + l .level .vertices ≤ length w
   fit₁ = let L = S .laid in omega arith
@@ -159,7 +156,7 @@ module _ {l : GrowthRoom} {w : List ℕ} (b : Blank l w) where
         short = λ r q. omega (arith, b .counts-are r q, count-length (eqb unassigned) (memoryIn l w .owners), n .0, rows-n);
       }
 
-  pub blank-ready : GrowthReady l w
+  blank-ready : GrowthReady l w
   blank-ready = record { laid = b .sown .laid; lists = b .sown .lists; light = b .sown .light; good = blank-good }
 
   pub seated-start : Seated l w w (l .ranks)

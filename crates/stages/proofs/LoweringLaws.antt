@@ -51,9 +51,6 @@ module _ {g : Search} {h : ℕ} {w₀ : List ℕ} {l : HierarchyLevel} {s u t₀
   pub at-offset : l .offsets + (u + 1) < length w₀
   at-offset = omega (arith, u-at, P .lies .room, P .lies .size, P .lies .offsets-in)
 
-  pub first-le : from w₀ (l .offsets) u ≤ from w₀ (l .offsets) (u + 1)
-  first-le = omega (arith, P .lies .step u u-at)
-
   at-neighbor : (j : ℕ) → j < from w₀ (l .offsets) (u + 1) → l .neighbors + j < s
   at-neighbor j m = omega (arith, P .lies .entries-in u u-at)
 

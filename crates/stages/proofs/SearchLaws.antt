@@ -20,7 +20,7 @@ in-getD [] i h = absurd (omega arith)
 in-getD (x ∷ xs) zero h = rw (eq-eqb x x refl)
 in-getD (x ∷ xs) (suc i) h = split (eqb (getD xs i 0) x) (λ p. rw p) (λ p. rw p (in-getD xs i (omega arith)))
 
-pub getD-in : (P : ℕ → Type 0) (xs : List ℕ) (w : ℕ) → ((i : ℕ) → i < length xs → P (getD xs i 0)) → elem w xs ≡ true → P w
+getD-in : (P : ℕ → Type 0) (xs : List ℕ) (w : ℕ) → ((i : ℕ) → i < length xs → P (getD xs i 0)) → elem w xs ≡ true → P w
 getD-in P [] w f e = absurd (false≢true e)
 getD-in P (x ∷ xs) w f e = split (eqb w x)
     (λ p. subst P (sym (eqb-true w x p)) (f 0 (omega arith)))
@@ -30,13 +30,13 @@ getD-in P (x ∷ xs) w f e = split (eqb w x)
 in-more : (v s : ℕ) (xs : List ℕ) → elem v (xs ++ (s ∷ [])) ≡ (elem v xs || elem v (s ∷ []))
 in-more v s xs = elem-append v xs (s ∷ [])
 
-pub in-old : (v s : ℕ) (xs : List ℕ) → elem v xs ≡ true → elem v (xs ++ (s ∷ [])) ≡ true
+in-old : (v s : ℕ) (xs : List ℕ) → elem v xs ≡ true → elem v (xs ++ (s ∷ [])) ≡ true
 in-old v s xs e = rw (in-more v s xs, e)
 
-pub in-new : (s : ℕ) (xs : List ℕ) → elem s (xs ++ (s ∷ [])) ≡ true
+in-new : (s : ℕ) (xs : List ℕ) → elem s (xs ++ (s ∷ [])) ≡ true
 in-new s xs = split (elem s xs) (λ p. rw (in-more s s xs, p)) (λ p. rw (in-more s s xs, p, eq-eqb s s refl))
 
-pub in-either : (v s : ℕ) (xs : List ℕ) → elem v (xs ++ (s ∷ [])) ≡ true → (elem v xs ≡ true) ⊎ (v ≡ s)
+in-either : (v s : ℕ) (xs : List ℕ) → elem v (xs ++ (s ∷ [])) ≡ true → (elem v xs ≡ true) ⊎ (v ≡ s)
 in-either v s xs e = split (elem v xs)
     (λ p. inl p)
     (λ p. split (eqb v s) (λ q. inr (eqb-true v s q)) (λ q. absurd (false≢true (rw (in-more v s xs, p, q) at e))))

@@ -15,13 +15,14 @@ use Rattle.links.specs.Parts.{part, putBack, Kept}
 use Rattle.links.specs.Graph.{row, degree, vertices, vertexCount, Sound}
 use Rattle.links.proofs.ListLaws.{split, all-filter, all-range, filter-none, best-none, best-all, best-kept, not-of, iff-eq}
 use Rattle.links.proofs.PartLaws.{length-part, getD-part, getD-putBack-in, kept-putBack, part-set-end, kept-set, kept-trans, kept-wide, kept-part-after}
-use Rattle.links.proofs.RowLaws.{length-rows, length-row, row-at, offsets-fit}
+use Rattle.links.proofs.RowLaws.{length-row, row-at, offsets-fit}
 use Rattle.stages.specs.Level.{Ready, offsetsAt, neighborsAt, rowsAt}
 use Rattle.stages.specs.Seeds.{distances, nextSeed, farthestSeeds, farther}
 use Rattle.stages.specs.SeedsCode.{from, Search, Searchable, Lies, Lowerable, Lowered, ahead, unseeded, farthest, degreeAt, Choosing, Seedable, SeededTo, Seeded}
 use Rattle.stages.specs.declared.level.HierarchyLevel.{HierarchyLevel}
-use Rattle.stages.proofs.DistanceLaws.{passing-gap, passing-in, unique, distances-distance, distances-length}
+use Rattle.stages.proofs.DistanceLaws.{passing-gap, passing-in, unique, distances-hold, distances-length}
 use Rattle.stages.proofs.GrowthLaws.{length-seeds}
+use Rattle.stages.proofs.LevelLaws.{length-neighbors, all-vertices, vertex-in}
 use Rattle.stages.proofs.LoweringLaws.{lies-kept}
 
 -- ---- the code's choice of the next seed
@@ -94,12 +95,12 @@ module _ (rows : List (List ℕ)) (sound : Sound rows) (few : length rows < unas
   -- the seeds are those at distance 0
   seed-test : (v : ℕ) → v < length rows → eqb (at (distances rows seeds) v) 0 ≡ elem v seeds
   seed-test v h =
-      let L = distances-distance rows sound seeds few in
+      let L = distances-hold rows sound seeds few in
       iff-eq (eqb (at (distances rows seeds) v) 0) (elem v seeds)
       (λ p. L .seeds-only v h (eqb-true (at (distances rows seeds) v) 0 p))
       (λ p. eq-eqb (at (distances rows seeds) v) 0 (L .at-seeds v h p))
 
-  pub far-next
+  far-next
       : (d deg : ℕ → ℕ)
       → ((v : ℕ) → v < length rows → d v ≡ at (distances rows seeds) v)
       → ((v : ℕ) → v < length rows → deg v ≡ degree rows v)
@@ -149,7 +150,7 @@ none-reached rows sound few =
       near = λ v h w e. omega arith;
       nearer = λ v h l m. absurd (omega arith);
     })
-    (distances-distance rows sound [] few)
+    (distances-hold rows sound [] few)
 
 -- what the search for the r-th seed goes by
 unfoldable pub searchFor : List (List ℕ) → ℕ → Search
@@ -164,7 +165,7 @@ searchable : (rows : List (List ℕ)) (r : ℕ) → Sound rows → length rows <
 unfolding searchFor
 searchable rows r sound few h =
     let F = farthestSeeds rows r in
-    let L = distances-distance rows sound F few in
+    let L = distances-hold rows sound F few in
     let N = next-fresh rows F (omega (arith, length-seeds rows r)) in
     let d = at (distances rows F) (nextSeed rows F) in
     record {
@@ -181,47 +182,34 @@ searchable rows r sound few h =
 
 -- a level below scratch lies as the search asks
 module _ {w : List ℕ} {l : HierarchyLevel} {s : ℕ} (R : Ready w l s) (room : s + 2 * l .vertices ≤ length w) where
-  offsets-length : length (offsetsAt w l) ≡ l .vertices + 1
-  offsets-length =
-      length-part w (l .offsets) (l .offsets + (l .vertices + 1)) (omega arith) (omega (arith, R .laid .offsets-in, R .laid .neighbors-in, R .laid .weights-in, R .laid .map-in, R .laid .owners-in, R .inside))
-      ∙ omega arith
-
-  neighbors-length : length (neighborsAt w l) ≡ l .entries
-  neighbors-length =
-      length-part w (l .neighbors) (l .neighbors + l .entries) (omega arith) (omega (arith, R .laid .neighbors-in, R .laid .weights-in, R .laid .map-in, R .laid .owners-in, R .inside))
-      ∙ omega arith
-
-  count : vertexCount (offsetsAt w l) ≡ l .vertices
-  count = omega (arith, offsets-length)
-
-  pub rows-length : length (rowsAt w l) ≡ l .vertices
-  rows-length = length-rows (offsetsAt w l) (neighborsAt w l) ∙ count
-
   offset-at : (v : ℕ) → v ≤ l .vertices → at (offsetsAt w l) v ≡ from w (l .offsets) v
   offset-at v h = getD-part w (l .offsets) (l .offsets + (l .vertices + 1)) v (omega arith)
 
   module _ (v : ℕ) (h : v < length (rowsAt w l)) where
+    v-low : v < l .vertices
+    v-low = rw (all-vertices w l s R) at h
+
     v-in : v < vertexCount (offsetsAt w l)
-    v-in = omega (arith, count, rows-length)
+    v-in = vertex-in w l s R v v-low
 
     fits : from w (l .offsets) (v + 1) ≤ l .entries
-    fits = omega (arith, offsets-fit (offsetsAt w l) (neighborsAt w l) (R .lists) (v + 1) (omega (arith, v-in)), neighbors-length, offset-at (v + 1) (omega (arith, v-in, count)))
+    fits = omega (arith, offsets-fit (offsetsAt w l) (neighborsAt w l) (R .lists) (v + 1) (omega (arith, v-in)), length-neighbors w l s R, offset-at (v + 1) (omega (arith, v-low)))
 
     step : from w (l .offsets) v + degree (rowsAt w l) v ≡ from w (l .offsets) (v + 1)
     step =
-        omega (arith, length-row (offsetsAt w l) (neighborsAt w l) (R .lists) v v-in, R .lists .rises v v-in, offset-at v (omega (arith, v-in, count)), offset-at (v + 1) (omega (arith, v-in, count)))
+        omega (arith, length-row (offsetsAt w l) (neighborsAt w l) (R .lists) v v-in, R .lists .rises v v-in, offset-at v (omega (arith, v-low)), offset-at (v + 1) (omega (arith, v-low)))
 
     entry : (i : ℕ) → i < degree (rowsAt w l) v → from w (l .neighbors) (from w (l .offsets) v + i) ≡ at (row (rowsAt w l) v) i
     entry i k =
-        ap (λ (x : ℕ). from w (l .neighbors) (x + i)) (sym (offset-at v (omega (arith, v-in, count))))
-        ∙ sym (getD-part w (l .neighbors) (l .neighbors + l .entries) (at (offsetsAt w l) v + i) (omega (arith, offset-at v (omega (arith, v-in, count)), step, fits)))
+        ap (λ (x : ℕ). from w (l .neighbors) (x + i)) (sym (offset-at v (omega (arith, v-low))))
+        ∙ sym (getD-part w (l .neighbors) (l .neighbors + l .entries) (at (offsetsAt w l) v + i) (omega (arith, offset-at v (omega (arith, v-low)), step, fits)))
         ∙ sym (row-at (offsetsAt w l) (neighborsAt w l) (R .lists) v v-in i k)
 
   pub lies : Lies (rowsAt w l) w l s
   lies = record {
     sound = R .lists .sound;
-    size = rows-length;
-    few = omega (arith, rows-length, R .few);
+    size = all-vertices w l s R;
+    few = omega (arith, all-vertices w l s R, R .few);
     offsets-in = omega (arith, R .laid .offsets-in, R .laid .neighbors-in, R .laid .weights-in, R .laid .map-in, R .laid .owners-in);
     step = step;
     entry = λ v i h k. entry v h i k;
@@ -321,7 +309,7 @@ module _ {w₀ : List ℕ} {l : HierarchyLevel} {s k : ℕ} (P : Seedable w₀ l
                 ∙ ap (λ (z : ℕ). farthestSeeds rows r ++ (z ∷ [])) is-next
                 ∙ sym grown;
             distance = λ v m.
-                unique rows (lies₀ .sound) more (from w′ s) (at (distances rows more)) (L .distance) (distances-distance rows (lies₀ .sound) more (lies₀ .few)) v m
+                unique rows (lies₀ .sound) more (from w′ s) (at (distances rows more)) (L .distance) (distances-hold rows (lies₀ .sound) more (lies₀ .few)) v m
                 ∙ ap (λ (z : List ℕ). at (distances rows z) v) (sym grown);
             kept = kept-trans s (s + 2 * l .vertices + k) w′ w₁ w₀ (kept-wide s (s + 2 * l .vertices) s (s + 2 * l .vertices + k) w′ w₁ (omega arith) (omega arith) (L .kept)) kept-seed;
           }

@@ -3,16 +3,17 @@ use mathlib.Core.Path.{_≡_}
 use mathlib.Core.Logic.{_⊎_}
 use mathlib.Core.Bool.{Bool, true, false, not, cond}
 use mathlib.Core.List.{List, [], _∷_, _++_}
+use mathlib.Core.Option.{Option}
 use Prim.Native.Nat.{ℕ, _+_, _*_, _≤_, _<_, _^_}
 use lib.ListN.{length, set, drop, replicate}
 use lib.Dec.{eqb, ltb}
-use Rattle.links.specs.Lists.{at, unassigned, filter, any, foldl, range, sum}
+use Rattle.links.specs.Lists.{at, unassigned, filter, any, foldl, range, sum, best}
 use Rattle.links.specs.Parts.{part, Kept}
 use Rattle.links.specs.Graph.{row, load, SoundLists}
 use Rattle.stages.specs.Level.{Ready, offsetsAt, neighborsAt, rowsAt, weightsAt, ownersAt}
 use Rattle.stages.specs.Seeds.{farthestSeeds}
 use Rattle.stages.specs.Growth.{Growing, Turn, Round, Growth, turn, round, rounds, isPass, afterTurn, seedOwners, grown, weightedMultisource, restartCount}
-use Rattle.stages.specs.FrontierCode.{GrowthLaid, Outside, rowsIn, weightsIn, memoryIn, opens, frontOf, Stands, GrowthReady, kindOf}
+use Rattle.stages.specs.FrontierCode.{GrowthLaid, Outside, rowsIn, weightsIn, memoryIn, opens, higher, Sought, frontOf, Stands, GrowthReady, kindOf}
 use Rattle.stages.specs.declared.level.HierarchyLevel.{HierarchyLevel}
 use Rattle.stages.specs.declared.growth.GrowthRoom.{GrowthRoom}
 use Rattle.stages.specs.declared.growth.Grown.{Grown}
@@ -27,6 +28,29 @@ StandsIn cap l w w′ s = Stands cap (rowsIn l w) (weightsIn l w) (l .ranks) (me
 -- rank r's candidates that are open to it
 abbrev pub openIn : ℕ → GrowthRoom → List ℕ → List ℕ → ℕ → ℕ → Bool
 openIn cap l w w′ r = opens cap (weightsIn l w) (memoryIn l w′ .owners) (load (weightsIn l w) (memoryIn l w′ .owners) r)
+
+-- those that are open to a rank of rank r's load in the memory, which is its load
+abbrev pub openNow : ℕ → GrowthRoom → List ℕ → ℕ → ℕ → Bool
+openNow cap l w r = opens cap (weightsIn l w) (memoryIn l w .owners) (at (memoryIn l w .loads) r)
+
+-- a place in rank r's chain where a search for an open candidate stops
+abbrev pub SoughtIn : ℕ → GrowthRoom → List ℕ → ℕ → ℕ → ℕ → ℕ → Type 0
+SoughtIn cap l w r h p n =
+    Sought
+    (rowsIn l w)
+    (memoryIn l w .links)
+    (openNow cap l w r)
+    (l .level .vertices)
+    (at (memoryIn l w .heads) r)
+    (at (memoryIn l w .places) r)
+    (at (memoryIn l w .counts) r)
+    h
+    p
+    n
+
+-- the group that rank r would restart from
+abbrev pub restartIn : ℕ → GrowthRoom → List ℕ → ℕ → Option ℕ
+restartIn cap l w r = best (higher (rowsIn l w)) (filter (openNow cap l w r) (range 0 (l .level .vertices)))
 
 -- g is the first open candidate of rank r, unassigned where there is none; the place in its chain is there, or at the end
 pub record Advanced (l : GrowthRoom) (cap : ℕ) (w w′ : List ℕ) (r g : ℕ) : Type 0 where

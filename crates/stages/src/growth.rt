@@ -7,16 +7,16 @@ use links::store;
 use links::wide;
 ghost use mathlib.Core.Path.{_≡_};
 ghost use mathlib.Core.Logic.{_⊎_};
-ghost use mathlib.Core.Bool.{Bool, true, false, cond};
-ghost use Prim.Native.Nat.{ℕ, _+_, _-_, _*_, _≤_, _<_, _^_};
+ghost use mathlib.Core.Bool.{true, cond};
+ghost use Prim.Native.Nat.{_+_, _-_, _*_, _≤_, _<_, _^_};
 ghost use lib.ListN.{length};
 ghost use lib.Dec.{eqb};
 ghost use Rattle.links.specs.Lists.{at, unassigned, filter, range, best};
 ghost use Rattle.links.specs.Best.{held, stepBest};
 ghost use Rattle.links.specs.Graph.{row, degree, rowsOf, vertexCount, load, SoundLists};
-ghost use Rattle.stages.specs.Level.{weightsAt, ownersAt, offsetsAt, neighborsAt};
+ghost use Rattle.stages.specs.Level.{weightsAt};
 ghost use Rattle.stages.specs.FrontierCode.{opens, higher, stopsAt, Onward, Chain, Sought, candidateAt, Lent, rowsIn, weightsIn, memoryIn, GrowthLaid, parked, owning, begun, appended, GrowthReady, Stored};
-ghost use Rattle.stages.specs.GrowthCode.{openIn, Advanced, Claimed, TurnMade, Rounded, vacancy, More, GrownTo, seedsIn, Sown, Blank, Cleared, Seated, Multisource, tooHeavy, roomAt, Growable, GrownTold};
+ghost use Rattle.stages.specs.GrowthCode.{openIn, SoughtIn, restartIn, Advanced, Claimed, TurnMade, Rounded, vacancy, More, GrownTo, Sown, Blank, Cleared, Seated, Multisource, tooHeavy, roomAt, Growable, GrownTold};
 
 const UNASSIGNED: u32 = 4294967295;
 
@@ -302,8 +302,7 @@ fn append(work: &mut [u32], room: GrowthRoom, r: usize, g: u32)
 // The place of rank r's first open candidate in its chain.
 fn sought(w: &[u32], room: GrowthRoom, cap: u64, r: usize) -> Cursor
     requires { ⌜ GrowthReady room (now w) × (r < room .ranks) ⌝ }
-    ensures { λ c. ⌜ Sought (rowsIn room (now (w .entry))) (memoryIn room (now (w .entry)) .links) (opens cap (weightsIn room (now (w .entry))) (memoryIn room (now (w .entry)) .owners) (at (memoryIn room (now (w .entry)) .loads) r)) (room .level .vertices)
-        (at (memoryIn room (now (w .entry)) .heads) r) (at (memoryIn room (now (w .entry)) .places) r) (at (memoryIn room (now (w .entry)) .counts) r) (c .head) (c .place) (c .count) ⌝ }
+    ensures { λ c. ⌜ SoughtIn cap room (now (w .entry)) r (c .head) (c .place) (c .count) ⌝ }
 {
     let l = room.level;
     let n = l.vertices;
@@ -354,7 +353,7 @@ fn found(w: &[u32], room: GrowthRoom, c: Cursor) -> u32
 // The group that rank r would restart from.
 fn restart_for(w: &[u32], room: GrowthRoom, cap: u64, r: usize) -> u32
     requires { ⌜ GrowthReady room (now w) × (r < room .ranks) ⌝ }
-    ensures { λ g. ⌜ held g ≡ best (higher (rowsIn room (now (w .entry)))) (filter (opens cap (weightsIn room (now (w .entry))) (memoryIn room (now (w .entry)) .owners) (at (memoryIn room (now (w .entry)) .loads) r)) (range 0 (room .level .vertices))) ⌝ }
+    ensures { λ g. ⌜ held g ≡ restartIn cap room (now (w .entry)) r ⌝ }
 {
     let l = room.level;
     let n = l.vertices;

@@ -1,3 +1,4 @@
+-- The chain from the first open candidate on has the same open candidates. Assumes nothing.
 use Rattle.stages.proofs.GrowthSliceLaws.{found-pre, advance-is}
 use borrow.Author.Needs.{needs}
 use Rattle.stages.proofs.growth.advance.Statement.{statement}

@@ -1,3 +1,4 @@
+-- The loop keeps the test of what is left. Assumes nothing.
 use native.Mathlib.Omega.{arith}
 use Prim.Native.Nat.{_-_, _≤_}
 use mathlib.Core.Path.{_≡_, sym, refl, ap, _∙_}

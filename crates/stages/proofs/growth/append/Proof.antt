@@ -1,3 +1,4 @@
+-- Three stores of the memory, the first at the chain's last entry. Assumes nothing.
 use native.Mathlib.Omega.{arith}
 use Prim.Native.Nat.{ℕ, _+_}
 use mathlib.Core.Path.{_∙_, ap}

@@ -1,3 +1,4 @@
+-- Four stores of the memory. Assumes nothing.
 use Rattle.stages.proofs.GrowthMemoryLaws.{begin-is}
 use borrow.Author.Needs.{needs}
 use Rattle.stages.proofs.growth.begin.Statement.{statement}

@@ -1,3 +1,4 @@
+-- The candidate at a place of the chain. Assumes nothing.
 use native.Mathlib.Omega.{arith}
 use borrow.Author.Tests.{eq-eqb, ne-eqb}
 use Rattle.stages.specs.FrontierCode.{candidateAt}

@@ -1,3 +1,4 @@
+-- The group is owned, then it is the chain or its last entry. Assumes nothing.
 use mathlib.Core.Path.{sym, _∙_}
 use Rattle.stages.proofs.GrowthMemoryLaws.{laid-after, read-count}
 use Rattle.stages.proofs.GrowthSliceLaws.{claim-pre, append-pre, claim-begins, claim-appends}

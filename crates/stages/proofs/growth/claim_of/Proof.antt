@@ -1,3 +1,4 @@
+-- 1 for what is not a pass. Assumes nothing.
 use borrow.Author.Tests.{eq-eqb, ne-eqb}
 use Rattle.stages.proofs.growth.claim_of.Statement.{statement}
 use Rattle.stages.proofs.growth.claim_of.Tie as tie

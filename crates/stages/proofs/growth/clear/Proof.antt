@@ -1,3 +1,4 @@
+-- Three fills: the owners, the loads and the counts. Assumes nothing.
 use Rattle.stages.proofs.GrowthStartLaws.{clear-is}
 use borrow.Author.Needs.{needs}
 use Rattle.stages.proofs.growth.clear.Statement.{statement}

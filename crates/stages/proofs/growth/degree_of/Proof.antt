@@ -1,3 +1,4 @@
+-- How many neighbors a vertex has: two offsets apart. Assumes nothing.
 use mathlib.Core.Path.{sym}
 use Rattle.links.proofs.RowLaws.{length-row}
 use borrow.Author.Needs.{needs}

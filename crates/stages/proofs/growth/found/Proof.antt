@@ -1,3 +1,4 @@
+-- The candidate on the parts that are lent for it. Assumes nothing.
 use Rattle.stages.proofs.GrowthSliceLaws.{found-lent, found-post}
 use borrow.Author.Needs.{needs}
 use Rattle.stages.proofs.growth.found.Statement.{statement}

@@ -1,3 +1,4 @@
+-- The loop keeps what the rounds made, and that the definition's rounds from there are the rest. Assumes nothing.
 use native.Mathlib.Omega.{arith}
 use Prim.Native.Nat.{_-_}
 use mathlib.Core.Path.{_≡_, refl, sym, _∙_}

@@ -1,3 +1,4 @@
+-- Unowned, and within the cap: the sum of two numbers of 32 bits fits. Assumes nothing.
 use native.Mathlib.Omega.{arith}
 use borrow.Author.Tests.{eq-eqb, ne-eqb}
 use Rattle.stages.specs.FrontierCode.{opens}

@@ -1,3 +1,4 @@
+-- A round if a group is unowned, else none. Assumes nothing.
 use mathlib.Core.Path.{sym, _∙_}
 use Rattle.stages.proofs.GrowthRoundLaws.{more-yes, more-no}
 use borrow.Author.Needs.{needs}

@@ -1,3 +1,4 @@
+-- Cleared, seated, grown: the growth that is defined. Assumes nothing.
 use Rattle.stages.proofs.GrowthStartLaws.{multisource-is, multisource-after}
 use borrow.Author.Needs.{needs}
 use Rattle.stages.proofs.growth.multisource.Statement.{statement}

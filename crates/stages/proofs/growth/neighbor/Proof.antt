@@ -1,3 +1,4 @@
+-- A neighbor lies where its row starts and as far on as its place. Assumes nothing.
 use native.Mathlib.Omega.{arith}
 use Prim.Native.Nat.{ℕ, _+_, _<_}
 use mathlib.Core.Path.{sym, ap}

@@ -1,3 +1,4 @@
+-- A round without a claim is the last. Assumes nothing.
 use borrow.Author.Tests.{eq-eqb, ne-eqb}
 use borrow.Author.Needs.{needs}
 use Rattle.stages.proofs.growth.next_round.Statement.{statement}

@@ -1,3 +1,4 @@
+-- One candidate on in the row, or to the next entry. Assumes nothing.
 use mathlib.Core.Path.{refl, ap}
 use mathlib.Core.Logic.{inl, inr}
 use Rattle.links.specs.Lists.{at}

@@ -1,3 +1,4 @@
+-- Two stores of the memory; the load fits by the premise. Assumes nothing.
 use native.Mathlib.Omega.{arith}
 use Prim.Native.Nat.{ℕ, _+_}
 use mathlib.Core.Path.{_∙_, ap, ap₂}

@@ -1,3 +1,4 @@
+-- Three stores of the memory. Assumes nothing.
 use Rattle.stages.proofs.GrowthMemoryLaws.{park-is}
 use borrow.Author.Needs.{needs}
 use Rattle.stages.proofs.growth.park.Statement.{statement}

@@ -1,3 +1,4 @@
+-- The loop keeps what is left of the choice over all groups. Assumes nothing.
 use native.Mathlib.Omega.{arith}
 use native.Mathlib.Nat.{sub-zero}
 use Prim.Native.Nat.{ℕ, _-_, _<_, _≤_}

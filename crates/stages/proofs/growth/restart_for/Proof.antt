@@ -1,3 +1,4 @@
+-- The choice on the parts that are lent for it. Assumes nothing.
 use Rattle.stages.proofs.GrowthSliceLaws.{lent, restart-post}
 use borrow.Author.Needs.{needs}
 use Rattle.stages.proofs.growth.restart_for.Statement.{statement}

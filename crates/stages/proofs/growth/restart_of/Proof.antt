@@ -1,3 +1,4 @@
+-- 1 for a restart. Assumes nothing.
 use borrow.Author.Tests.{eq-eqb, ne-eqb}
 use Rattle.stages.proofs.growth.restart_of.Statement.{statement}
 use Rattle.stages.proofs.growth.restart_of.Tie as tie

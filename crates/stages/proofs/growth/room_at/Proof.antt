@@ -1,3 +1,4 @@
+-- The positions as they are defined. Assumes nothing.
 use mathlib.Core.Path.{refl}
 use Rattle.stages.specs.GrowthCode.{roomAt}
 use borrow.Author.Needs.{needs}

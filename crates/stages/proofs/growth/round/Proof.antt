@@ -1,3 +1,4 @@
+-- The loop keeps what the first ranks' turns made. Assumes nothing.
 use native.Mathlib.Omega.{arith}
 use Prim.Native.Nat.{ℕ, _-_, _≤_}
 use mathlib.Core.Path.{_≡_, subst}

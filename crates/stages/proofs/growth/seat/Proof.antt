@@ -1,3 +1,4 @@
+-- The seed is owned, then it is the chain. Assumes nothing.
 use Prim.Native.Nat.{_+_}
 use Rattle.stages.proofs.GrowthMemoryLaws.{seat-is, read-weight}
 use native.Mathlib.Omega.{arith}

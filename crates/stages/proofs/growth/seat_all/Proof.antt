@@ -1,3 +1,4 @@
+-- The loop keeps the seeds of the ranks from r on seated. Assumes nothing.
 use native.Mathlib.Omega.{arith}
 use Prim.Native.Nat.{ℕ, suc, _-_, _<_, _≤_}
 use mathlib.Core.Path.{_≡_, refl, _∙_, subst}

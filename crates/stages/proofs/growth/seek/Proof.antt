@@ -1,3 +1,4 @@
+-- The loop keeps the candidates that are open; candidates and entries ahead become fewer. Assumes nothing.
 use Prim.Native.Nat.{_+_, _<_}
 use mathlib.Core.Path.{sym, _∙_}
 use lib.ListN.{length}

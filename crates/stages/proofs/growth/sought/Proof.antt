@@ -1,3 +1,4 @@
+-- The search on the parts that are lent for it. Assumes nothing.
 use native.Mathlib.Omega.{arith}
 use Rattle.stages.proofs.GrowthSliceLaws.{lent, links-length, chain-pre, seek-post}
 use borrow.Author.Needs.{needs}

@@ -1,3 +1,4 @@
+-- The three cases of a turn: a claim, a restart, a pass. Assumes nothing.
 use mathlib.Core.Path.{refl}
 use Rattle.stages.proofs.GrowthSliceLaws.{advanced-open, restart-open, restart-some, restart-none, turn-claim, turn-restart, turn-pass}
 use borrow.Author.Needs.{needs}

@@ -1,3 +1,4 @@
+-- The test on the owners' part. Assumes nothing.
 use Rattle.stages.specs.FrontierCode.{memory, memoryIn}
 use borrow.Author.Needs.{needs}
 use Rattle.stages.proofs.growth.vacant_in.Statement.{statement}

@@ -1,3 +1,4 @@
+-- 6, then 7, then growth from rule 4's seeds. Assumes nothing.
 use native.Mathlib.Omega.{arith}
 use mathlib.Core.Path.{sym, _∙_, subst}
 use Rattle.stages.specs.GrowthCode.{Sown, Multisource, roomAt}

@@ -1,3 +1,4 @@
+-- How many neighbors a vertex has: two offsets apart. Assumes nothing.
 use native.Mathlib.Omega.{arith}
 use borrow.Author.Needs.{needs}
 use Rattle.stages.proofs.seeds.degree_of.Statement.{statement}

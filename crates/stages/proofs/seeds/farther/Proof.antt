@@ -1,3 +1,4 @@
+-- The better of two: the cases of the code are those of the definition's step. Assumes nothing.
 use native.Mathlib.Omega.{arith}
 use Prim.Native.Nat.{ℕ, _<_}
 use mathlib.Core.Path.{_≡_, refl}

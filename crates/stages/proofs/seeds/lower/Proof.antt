@@ -1,3 +1,4 @@
+-- The loop keeps the search: those from h up to t wait, and there are never more than vertices. Assumes nothing.
 use native.Mathlib.Omega.{arith}
 use Prim.Native.Nat.{ℕ, _+_, _-_}
 use mathlib.Core.Path.{_≡_, refl, ap, _∙_}

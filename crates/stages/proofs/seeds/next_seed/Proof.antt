@@ -1,3 +1,4 @@
+-- The loop keeps what is left of the choice over all vertices. Assumes nothing.
 use native.Mathlib.Omega.{arith}
 use native.Mathlib.Nat.{sub-zero}
 use mathlib.Core.Path.{_≡_, refl, sym, _∙_}

@@ -1,3 +1,4 @@
+-- A farther neighbor is lowered and appended, a near one left. Assumes nothing.
 use native.Mathlib.Omega.{arith}
 use mathlib.Core.Path.{_≡_}
 use mathlib.Core.Bool.{true, false}
