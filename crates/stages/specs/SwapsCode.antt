@@ -1,17 +1,17 @@
 -- What the code of rule 7 keeps in the work slice, and what it promises. Assumes nothing.
 use Prim.Native.Nat.{ℕ, suc, _+_, _-_, _*_, _≤_, _<_, _^_}
 use mathlib.Core.Path.{_≡_}
-use mathlib.Core.Bool.{Bool, not, _&&_, cond}
+use mathlib.Core.Bool.{not, _&&_, cond}
 use mathlib.Core.List.{List, [], _∷_}
 use mathlib.Core.Logic.{_⊎_}
 use lib.Dec.{ltb, eqb}
 use lib.ListN.{length, take, set}
 use Rattle.links.specs.Lists.{at, insert, foldl, elem, range, concatMap}
 use Rattle.links.specs.Parts.{part, Kept}
-use Rattle.links.specs.Graph.{linksIn, linksTo, load}
+use Rattle.links.specs.Graph.{linksIn, linksTo}
 use Rattle.stages.specs.Level.{offsetsAt, neighborsAt, rowsAt, weightsAt, ownersAt, Ready, balanceIn}
 use Rattle.stages.specs.Moves.{Step, move, swap, after}
-use Rattle.stages.specs.Swaps.{Candidate, Proposal, ahead, sooner, propose, proposals, candidates, applies, swapPass, allProposals, refineFinePairSwaps}
+use Rattle.stages.specs.Swaps.{Candidate, Proposal, ahead, sooner, propose, proposals, candidates, swapPass, allProposals, refineFinePairSwaps}
 use Rattle.stages.specs.MovesCode.{Ranked, Clear, Loaded}
 use Rattle.stages.specs.Slots.{candidate, slots}
 use Rattle.stages.specs.declared.level.HierarchyLevel.{HierarchyLevel}

@@ -1,8 +1,8 @@
 // The five stages of a division: coarsening, seeds, growth, moves, swaps (rules 3 to 7 of document 01), over one lent work slice.
 mod level;
+mod moves;
 mod slots;
 mod swaps;
-mod moves;
 
 pub use level::HierarchyLevel;
 pub use level::Limits;
