@@ -233,6 +233,7 @@ pub record Swappable (w : List ℕ) (l : HierarchyLevel) (scratch lists ranks : 
   pub few : ranks ≤ 256
   pub ranked : Ranked w l ranks
 
+-- rule 7's owners and number of swaps; what lies below the owners is left alone
 pub record RefinedBySwaps (w w′ : List ℕ) (l : HierarchyLevel) (scratch : ℕ) (limits : Limits) (passes r : ℕ) : Type 0 where
   pub owners : ownersAt w′ l ≡ foldl after (ownersAt w l) (swapsAt w l limits passes)
   pub number : r ≡ length (swapsAt w l limits passes)
