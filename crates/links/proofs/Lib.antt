@@ -5,3 +5,5 @@ pub mod SoundLaws
 pub mod RowLaws
 pub mod ListTestLaws
 pub mod OwnerLaws
+pub mod RangeLaws
+pub mod PackLaws

@@ -64,6 +64,14 @@ badLists offsets neighbors =
 unfoldable pub listsCause : List ℕ → List ℕ → ℕ
 listsCause offsets neighbors = cond (badLists offsets neighbors) 4 0
 
+-- the two slices that hold given rows: where each row starts, from a on, and the last one's end; and the rows one after the other
+abbrev pub offsetsFrom : ℕ → List (List ℕ) → List ℕ
+offsetsFrom a [] = a ∷ []
+offsetsFrom a (r ∷ rs) = a ∷ offsetsFrom (a + length r) rs
+
+abbrev pub packed : List (List ℕ) → List ℕ
+packed rows = concatMap (λ r. r) rows
+
 -- what a level's rows are, on the site's own lists by cause 4's test and on a coarser level by rule 3: the stages' premise
 pub record Sound (rows : List (List ℕ)) : Type 0 where
   pub below : (v : ℕ) → v < length rows → All (λ u. u < length rows) (row rows v)

@@ -18,6 +18,7 @@ pub fn vertex_count(offsets: &[u32]) -> usize
 }
 
 // 11 if there is no vertex v; else 4 if its offsets fall or pass the slice's end; else 0.
+// Rules out: 4 for a vertex that is not there; 0 where the last offset passes the slice's end.
 pub fn neighbors_cause(offsets: &[u32], neighbors: &[u32], v: u64) -> u32
     ensures { λ r. ⌜ r ≡ neighborsCause (now (offsets .entry)) (now (neighbors .entry)) v ⌝ }
 {
@@ -37,6 +38,7 @@ pub fn neighbors_cause(offsets: &[u32], neighbors: &[u32], v: u64) -> u32
 }
 
 // The neighbors of vertex v: the caller's slice between two offsets, or its empty part.
+// Rules out: a part that ends at the slice's end where the offsets pass it; the row of the next vertex.
 pub fn neighbors_of<'a, 'b>(offsets: &'b [u32], neighbors: &'a [u32], v: u64) -> &'a [u32]
     ensures { λ r. ⌜ now r ≡ neighborsOf (now (offsets .entry)) (now (neighbors .entry)) v ⌝ }
 {
@@ -175,6 +177,7 @@ fn mirrored_rows(offsets: &[u32], neighbors: &[u32]) -> bool
 }
 
 // 0, or 4 for lists that are not those of a graph.
+// Rules out: a list that is mirrored one way only; a repeat in a row.
 pub fn lists_cause(offsets: &[u32], neighbors: &[u32]) -> u32
     ensures { λ r. ⌜ ListsTested (now (offsets .entry)) (now (neighbors .entry)) r ⌝ }
 {

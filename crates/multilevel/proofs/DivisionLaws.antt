@@ -18,7 +18,7 @@ use Rattle.stages.specs.Seeds.{farthestSeeds}
 use Rattle.stages.specs.Growth.{Turn, Growth, weightedMultisource, grown}
 use Rattle.stages.specs.Moves.{Step, after, repeat, refineByCut}
 use Rattle.stages.specs.Swaps.{refineFinePairSwaps}
-use Rattle.multilevel.specs.Causes.{Call, badCounts, overLimits, firstOf, tooShort, earlyCause}
+use Rattle.multilevel.specs.Causes.{Call, badCounts, overLimits, firstOf, needOf, tooShort, earlyCause}
 use Rattle.multilevel.specs.Division.{Level, Trace, noGrowth, stopped, coarsenings, takeOver, listLength, refine, grow, solve}
 use Rattle.multilevel.specs.Demand3.{Lists, listsOf, ladder, growthOn, moved, ended, FairTurn, FairLevel}
 use Rattle.links.proofs.ListLaws.{split, or-l, or-r, all-append, all-in, elem-range, any-none}
@@ -27,6 +27,7 @@ use Rattle.stages.proofs.StepLaws.{Along, foldl-append, length-steps, Swapped, 
 use Rattle.stages.proofs.GrowthLaws.{length-grown, growth-fair, allPass, growth-last}
 use Rattle.stages.proofs.LoadLaws.{growth-within, moves-within}
 use Rattle.stages.proofs.GroupingLaws.{coarse-sound, coarse-weighed, coarse-sized, coarse-load}
+use Rattle.multilevel.proofs.CauseLaws.{good-options, limited}
 use Rattle.multilevel.proofs.LevelLaws.{level-fair}
 
 -- ---- what the causes tested before the work leave
@@ -34,16 +35,25 @@ use Rattle.multilevel.proofs.LevelLaws.{level-fair}
 pub record Tested (c : Call) : Type 0 where
   pub lists : SoundLists (c .offsets) (c .neighbors)
   pub few-vertices : vertexCount (c .offsets) ≤ 16384
+  pub few-entries : length (c .neighbors) ≤ 131072
   pub some-ranks : 1 ≤ c .ranks
   pub few-ranks : c .ranks ≤ 256
+  pub enough-vertices : c .ranks ≤ vertexCount (c .offsets)
+  pub some-levels : 1 ≤ c .options .«max_levels»
+  pub few-levels : c .options .«max_levels» ≤ 32
+  pub some-per-rank : 1 ≤ c .options .«coarse_vertices_per_rank»
+  pub some-passes : 1 ≤ c .options .«refinement_passes»
   pub tolerance : c .options .«imbalance_per_mille» ≤ 500
+  pub owners-fit : vertexCount (c .offsets) ≤ c .ownersLength
+  pub work-fits : needOf c ≤ c .workLength
 
-first-none : (x y z w v : Bool) → _≡_ {A = ℕ} (firstOf x y z w v) 0 → (x ≡ false) × (y ≡ false) × (z ≡ false) × (w ≡ false)
+first-none : (x y z w v : Bool) → _≡_ {A = ℕ} (firstOf x y z w v) 0 → (x ≡ false) × (y ≡ false) × (z ≡ false) × (w ≡ false) × (v ≡ false)
 first-none true y z w v e = absurd (omega arith)
 first-none false true z w v e = absurd (omega arith)
 first-none false false true w v e = absurd (omega arith)
 first-none false false false true v e = absurd (omega arith)
-first-none false false false false v e = (refl, refl, refl, refl)
+first-none false false false false true e = absurd (omega arith)
+first-none false false false false false e = (refl, refl, refl, refl, refl)
 
 first-low : (x y z w v : Bool) → firstOf x y z w v < 8
 first-low true y z w v = omega arith
@@ -55,23 +65,30 @@ first-low false false false false false = omega arith
 
 -- a call with no early cause has passed them all
 pub tested : (c : Call) → earlyCause c ≡ 0 → Tested c
-unfolding earlyCause badOptions badCounts overLimits
+unfolding earlyCause badCounts tooShort
 tested c e =
     let o = c .options in
     let n = vertexCount (c .offsets) in
     let m = length (c .neighbors) in
     let k = c .ranks in
-    let l = o .«max_levels» in
-    let f = first-none (badOptions o) (badCounts n k) (overLimits n m k l) (badLists (c .offsets) (c .neighbors)) (tooShort c) e in
-    let zero-options : Bool = eqb l 0 || eqb (o .«coarse_vertices_per_rank») 0 || eqb (o .«refinement_passes») 0 in
-    let within : ltb 16384 n || ltb 131072 m || ltb 256 k ≡ false = or-l (ltb 16384 n || ltb 131072 m || ltb 256 k) (ltb 32 l) (f .2) in
+    let f = first-none (badOptions o) (badCounts n k) (overLimits n m k (o .«max_levels»)) (badLists (c .offsets) (c .neighbors)) (tooShort c) e in
+    let good = good-options o (f .0) in
+    let within = limited n m k (o .«max_levels») (f .2) in
     let kne : k ≢ 0 = eqb-false k 0 (or-r (eqb n 0) (eqb k 0) (or-l (eqb n 0 || eqb k 0) (ltb n k) (f .1))) in
     record {
       lists = sound-lists (c .offsets) (c .neighbors) (f .3);
-      few-vertices = ltb-false 16384 n (or-l (ltb 16384 n) (ltb 131072 m) (or-l (ltb 16384 n || ltb 131072 m) (ltb 256 k) within));
+      few-vertices = within .few-vertices;
+      few-entries = within .few-entries;
       some-ranks = omega arith;
-      few-ranks = ltb-false 256 k (or-r (ltb 16384 n || ltb 131072 m) (ltb 256 k) within);
-      tolerance = ltb-false 500 (o .«imbalance_per_mille») (or-r zero-options (ltb 500 (o .«imbalance_per_mille»)) (f .0));
+      few-ranks = within .few-ranks;
+      enough-vertices = ltb-false n k (or-r (eqb n 0 || eqb k 0) (ltb n k) (f .1));
+      some-levels = good .levels;
+      few-levels = within .few-levels;
+      some-per-rank = good .per-rank;
+      some-passes = good .passes;
+      tolerance = good .tolerance;
+      owners-fit = ltb-false (c .ownersLength) n (or-l (ltb (c .ownersLength) n) (ltb (c .workLength) (needOf c)) (f .4));
+      work-fits = ltb-false (c .workLength) (needOf c) (or-r (ltb (c .ownersLength) n) (ltb (c .workLength) (needOf c)) (f .4));
     }
 
 -- an early cause is not 8 or above

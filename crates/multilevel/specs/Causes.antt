@@ -1,5 +1,5 @@
 -- What a division is handed, and the causes that it tests before its work: 1 to 5 of 01's table, each by name. Assumes nothing.
-use Prim.Native.Nat.{ℕ, _+_, _*_}
+use Prim.Native.Nat.{ℕ, _+_, _*_, _≤_}
 use mathlib.Core.Bool.{Bool, _||_, cond}
 use mathlib.Core.List.{List}
 use lib.ListN.{length}
@@ -17,6 +17,17 @@ pub record Call : Type 0 where
   pub ownersLength : ℕ
   pub workLength : ℕ
 
+abbrev pub callOf : List ℕ → List ℕ → ℕ → AbtmMultilevelOptions → ℕ → ℕ → Call
+callOf offsets neighbors ranks options ownersLength workLength =
+    record {
+      offsets = offsets;
+      neighbors = neighbors;
+      ranks = ranks;
+      options = options;
+      ownersLength = ownersLength;
+      workLength = workLength;
+    }
+
 -- 2: "n = 0, k = 0 or k > n"
 unfoldable pub badCounts : ℕ → ℕ → Bool
 badCounts n k = eqb n 0 || eqb k 0 || ltb n k
@@ -28,6 +39,13 @@ overLimits n m k levels = ltb 16384 n || ltb 131072 m || ltb 256 k || ltb 32 lev
 -- "work needs (L + 6) × (4n + 2m + 2) + 24 × k × k numbers"
 unfoldable pub workNeed : ℕ → ℕ → ℕ → ℕ → ℕ
 workNeed n m k levels = (levels + 6) * (4 * n + 2 * m + 2) + 24 * k * k
+
+-- within the limits of 3
+pub record Limited (n m k levels : ℕ) : Type 0 where
+  pub few-vertices : n ≤ 16384
+  pub few-entries : m ≤ 131072
+  pub few-ranks : k ≤ 256
+  pub few-levels : levels ≤ 32
 
 -- "a division tests in table order": the number of the first cause that holds, 0 if none
 abbrev pub firstOf : Bool → Bool → Bool → Bool → Bool → ℕ

@@ -1,5 +1,5 @@
 -- Demand 3: one claim about a whole division, "from first seed to last swap or to refusal 8 or 9". Each field stands under its sentence; the theorem
--- that every division has it is proofs/Demand3.antt. Assumes nothing.
+-- that every division has it is proofs/Demand3Laws.antt. Assumes nothing.
 use Prim.Native.Nat.{ℕ, suc, _+_, _*_, _/_, _≤_, _<_}
 use mathlib.Core.Path.{_≡_}
 use mathlib.Core.Logic.{_↔_, _⊎_}

@@ -2,3 +2,9 @@ pub mod Causes
 pub mod Division
 pub mod Demand3
 pub mod Sites
+pub mod File
+pub mod Contract
+pub mod Driver
+pub mod Room
+pub mod DriverCode
+pub mod Measure

@@ -485,3 +485,29 @@ module _ (rows : List (List ℕ)) (s : Sound rows) (ws : List ℕ) (small : leng
       let owns : ℕ → Bool = λ g. eqb (at o g) r in
       let same = index-load owns 0 (c .weights) o r (n ∙ sym (coarse-weighed rows ws)) (λ g j e. let z : g ≡ j = omega arith in ap owns z) in
       load-by ws (c .group) o r ∙ groups-weigh owns ∙ same
+
+-- ---- the counts of a step
+
+-- pairs and singletons are all the groups
+abbrev Counted : Pairing → Type 0
+Counted p = p .pairs + p .singletons ≡ length (p .weights)
+
+grouped-counted : (ws : List ℕ) (p : Pairing) (v : ℕ) (u : Option ℕ) → Counted p → Counted (grouped ws p v u)
+unfolding grouped
+grouped-counted ws p v none e = omega (arith, length-append (p .weights) (at ws v ∷ []))
+grouped-counted ws p v (some u) e = omega (arith, length-append (p .weights) ((at ws v + at ws u) ∷ []))
+
+match-counted : (rows : List (List ℕ)) (ws : List ℕ) (vs : List ℕ) (p : Pairing) → Counted p → Counted (foldl (match rows ws) p vs)
+unfolding match
+match-counted rows ws [] p e = e
+match-counted rows ws (v ∷ vs) p e =
+    match-counted rows ws vs (cond (eqb (at (p .group) v) unassigned) (grouped ws p v (partner rows (p .group) v)) p)
+    (split (eqb (at (p .group) v) unassigned)
+    (λ q. rw q (grouped-counted ws p v (partner rows (p .group) v) e))
+    (λ q. rw q e))
+
+pub coarse-counted
+    : (rows : List (List ℕ)) (ws : List ℕ) → coarsenOnce rows ws .pairs + coarsenOnce rows ws .singletons ≡ length (coarsenOnce rows ws .weights)
+unfolding coarsenOnce pairing unmatched
+coarse-counted rows ws =
+    match-counted rows ws (byDegree rows) (record { group = replicate (length rows) unassigned; weights = []; pairs = 0; singletons = 0 }) refl

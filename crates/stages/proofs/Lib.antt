@@ -18,3 +18,15 @@ pub mod ListingLaws
 pub mod LoadLaws
 pub mod GroupingLaws
 pub mod SwapPassLaws
+pub mod RankLaws
+pub mod LevelLaws
+pub mod CoarsenOrderLaws
+pub mod CoarsenChoiceLaws
+pub mod CoarsenTurnLaws
+pub mod CoarsenMarkLaws
+pub mod CoarsenPairLaws
+pub mod CoarsenGrowLaws
+pub mod CoarsenRowLaws
+pub mod CoarsenChainLaws
+pub mod CoarsenListsLaws
+pub mod CoarsenOnceLaws

@@ -47,7 +47,9 @@ unfolding load
 load-joins [] os v r h d = omega arith
 load-joins (w ∷ ws) [] v r h d = absurd (omega arith)
 load-joins (w ∷ ws) (o ∷ os) zero r h d = split (eqb o r) (λ p. absurd (d (eqb-true o r p))) (λ p. rw p (omega (arith, load-sum ws os r)))
-load-joins (w ∷ ws) (o ∷ os) (suc v) r h d = split (eqb o r) (λ p. rw p (omega (arith, load-joins ws os v r (omega arith) d))) (λ p. rw p (omega (arith, load-joins ws os v r (omega arith) d)))
+load-joins (w ∷ ws) (o ∷ os) (suc v) r h d =
+    split (eqb o r) (λ p. rw p (omega (arith, load-joins ws os v r (omega arith) d)))
+    (λ p. rw p (omega (arith, load-joins ws os v r (omega arith) d)))
 
 -- ---- adding up, vertex by vertex: what is left from i on
 

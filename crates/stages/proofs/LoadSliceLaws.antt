@@ -34,7 +34,8 @@ cleared w w′ a n h e =
 -- added up as far as vertex v: with what is left, the loads
 pub record WeighTo (w₀ w : List ℕ) (l : HierarchyLevel) (loads ranks v : ℕ) : Type 0 where
   pub kept : Kept loads (loads + ranks) w w₀
-  pub sums : (r : ℕ) → r < ranks → at w (loads + r) + load (drop v (weightsAt w₀ l)) (drop v (ownersAt w₀ l)) r ≡ load (weightsAt w₀ l) (ownersAt w₀ l) r
+  pub sums : (r : ℕ) → r < ranks → at w (loads + r) + load (drop v (weightsAt w₀ l)) (drop v (ownersAt w₀ l)) r ≡ load (weightsAt w₀ l)
+      (ownersAt w₀ l) r
 
 module _ {w₀ : List ℕ} {l : HierarchyLevel} {loads ranks : ℕ} (t : Roomed w₀ l loads ranks) where
   abbrev ws : List ℕ
@@ -79,11 +80,13 @@ module _ {w₀ : List ℕ} {l : HierarchyLevel} {loads ranks : ℕ} (t : Roomed 
             split (eqb r s)
             (λ p.
             let q : r ≡ s = eqb-true r s p in
-            let z : at (set w (loads + r) (at w (loads + r) + x)) (loads + s) ≡ at w (loads + s) + x = rw (← q) (getD-set-same w (loads + r) (at w (loads + r) + x) 0 (omega (arith, t .room, d .kept .same-length, rank-in))) in
+            let z : at (set w (loads + r) (at w (loads + r) + x)) (loads + s) ≡ at w (loads + s) + x = rw (← q)
+            (getD-set-same w (loads + r) (at w (loads + r) + x) 0 (omega (arith, t .room, d .kept .same-length, rank-in))) in
             rw g (omega (arith, d .sums s m, rw p at n)))
             (λ p.
             let q = eqb-false r s p in
-            let z : at (set w (loads + r) (at w (loads + r) + x)) (loads + s) ≡ at w (loads + s) = getD-set-other w (loads + r) (loads + s) (at w (loads + r) + x) 0 (λ y. q (omega arith)) in
+            let z : at (set w (loads + r) (at w (loads + r) + x)) (loads + s) ≡ at w (loads + s) = getD-set-other w (loads + r) (loads + s)
+            (at w (loads + r) + x) 0 (λ y. q (omega arith)) in
             rw g (omega (arith, d .sums s m, rw p at n)));
       }
 

@@ -65,7 +65,8 @@ module _ (b : Balance) (rows : List (List ℕ)) (weights : List ℕ) where
   pass-turn owners₀ all n v owners owners′ done h f t =
       let e : n - v ≡ suc (n - (v + 1)) = omega arith in
       let ss = movePass b rows weights (v ∷ []) owners in
-      let u : Toward owners₀ all owners done (movePass b rows weights (v ∷ range (v + 1) (n - (v + 1))) owners) = rw (add-one v) (rw (e, add-one v) at t) in
+      let u : Toward owners₀ all owners done (movePass b rows weights (v ∷ range (v + 1) (n - (v + 1))) owners) = rw (add-one v)
+      (rw (e, add-one v) at t) in
       rw f (toward-next owners₀ all owners done ss (movePass b rows weights (range (v + 1) (n - (v + 1))) (foldl after owners ss))
       (rw (pass-split owners v (range (v + 1) (n - (v + 1)))) at u))
 
@@ -92,7 +93,8 @@ module _ (pass : List ℕ → List Step) where
       → p < passes
       → Toward owners₀ all owners done (passesLeft passes p owners)
       → (length (pass owners) ≡ 0 → ⊥)
-      → Toward owners₀ all (foldl after owners (pass owners)) (done + length (pass owners)) (passesLeft passes (p + 1) (foldl after owners (pass owners)))
+      → Toward owners₀ all (foldl after owners (pass owners)) (done + length (pass owners))
+      (passesLeft passes (p + 1) (foldl after owners (pass owners)))
   unfolding repeat
   repeat-turn owners₀ all passes p owners done h t n =
       let e : passes - p ≡ suc (passes - (p + 1)) = omega arith in

@@ -84,11 +84,13 @@ module _ {w₀ : List ℕ} {l : HierarchyLevel} {scratch : ℕ} (limits : Limits
         record {
           moving = s .moving;
           kept = kept-trans (l .owners) end w′ w w₀ (s .kept) (d .kept);
-          toward = rw n (pass-turn (balanceIn limits) (rowsAt w₀ l) (weightsAt w₀ l) (ownersAt w₀ l) (passAt w₀ l limits (ownersAt w₀ l)) (l .vertices) v (ownersAt w l) (ownersAt w′ l) moved h
+          toward = rw n (pass-turn (balanceIn limits) (rowsAt w₀ l) (weightsAt w₀ l) (ownersAt w₀ l) (passAt w₀ l limits (ownersAt w₀ l))
+              (l .vertices) v (ownersAt w l) (ownersAt w′ l) moved h
               (s .owners ∙ ap (foldl after (ownersAt w l)) same) (d .toward));
         }
 
-  pub pass-done : {w : List ℕ} {moved v : ℕ} → l .vertices ≤ v → Passing w₀ w l scratch limits moved v → Stepped w₀ w l scratch ranks (passAt w₀ l limits (ownersAt w₀ l)) moved
+  pub pass-done : {w : List ℕ} {moved v : ℕ} → l .vertices ≤ v → Passing w₀ w l scratch limits moved v
+      → Stepped w₀ w l scratch ranks (passAt w₀ l limits (ownersAt w₀ l)) moved
   pass-done {w} {moved} {v} h d =
       let t : Toward (ownersAt w₀ l) (passAt w₀ l limits (ownersAt w₀ l)) (ownersAt w l) moved [] =
       rw (pass-end (balanceIn limits) (rowsAt w₀ l) (weightsAt w₀ l) (l .vertices) v (ownersAt w l) h) at (d .toward) in
@@ -102,7 +104,8 @@ module _ {w₀ : List ℕ} {l : HierarchyLevel} {scratch : ℕ} (limits : Limits
     moves-bound =
         omega (
           arith,
-          moves-few (balanceIn limits) (rowsAt w₀ l) (weightsAt w₀ l) (ready .lists .sound) passes (ownersAt w₀ l) (owners-all ready ∙ sym (rows-all ready)),
+          moves-few (balanceIn limits) (rowsAt w₀ l) (weightsAt w₀ l) (ready .lists .sound) passes (ownersAt w₀ l)
+              (owners-all ready ∙ sym (rows-all ready)),
           cut-entries (rowsAt w₀ l) (ownersAt w₀ l),
           list-entries (offsetsAt w₀ l) (neighborsAt w₀ l) (ready .lists),
           neighbors-all ready,
@@ -138,20 +141,23 @@ module _ {w₀ : List ℕ} {l : HierarchyLevel} {scratch : ℕ} (limits : Limits
       repeat-goes z = record {
         moving = s .moving;
         kept = kept-on;
-        toward = rw (counted, owned) (repeat-turn (passAt w₀ l limits) (ownersAt w₀ l) (movesAt w₀ l limits passes) passes p (ownersAt w l) total h (d .toward) (λ e. z (counted ∙ e)));
+        toward = rw (counted, owned) (repeat-turn (passAt w₀ l limits) (ownersAt w₀ l) (movesAt w₀ l limits passes) passes p (ownersAt w l)
+            total h (d .toward) (λ e. z (counted ∙ e)));
       }
 
       -- one without is the last
       pub repeat-stops : count ≡ 0 → Stepped w₀ w′ l scratch ranks (movesAt w₀ l limits passes) total
       repeat-stops z =
           let t : Toward (ownersAt w₀ l) (movesAt w₀ l limits passes) (ownersAt w′ l) total [] =
-          rw owned (repeat-quiet (passAt w₀ l limits) (ownersAt w₀ l) (movesAt w₀ l limits passes) passes p (ownersAt w l) total h (d .toward) (sym counted ∙ z)) in
+          rw owned (repeat-quiet (passAt w₀ l limits) (ownersAt w₀ l) (movesAt w₀ l limits passes) passes p (ownersAt w l) total h (d .toward)
+          (sym counted ∙ z)) in
           record { owners = t .end; number = omega (arith, t .count); moving = s .moving; kept = kept-on }
 
     pub total-few : {w : List ℕ} {total p : ℕ} → Repeating w₀ w l scratch limits passes total p → total ≤ 131072
     total-few d = omega (arith, d .toward .count, moves-bound)
 
-    pub repeat-done : {w : List ℕ} {total p : ℕ} → passes ≤ p → Repeating w₀ w l scratch limits passes total p → Stepped w₀ w l scratch ranks (movesAt w₀ l limits passes) total
+    pub repeat-done : {w : List ℕ} {total p : ℕ} → passes ≤ p → Repeating w₀ w l scratch limits passes total p
+        → Stepped w₀ w l scratch ranks (movesAt w₀ l limits passes) total
     repeat-done {w} {total} {p} h d =
         let t : Toward (ownersAt w₀ l) (movesAt w₀ l limits passes) (ownersAt w l) total [] =
         rw (repeat-end (passAt w₀ l limits) passes p (ownersAt w l) h) at (d .toward) in
@@ -169,13 +175,15 @@ verdict-number number moves = split (eqb number 0) (λ p. rw p (sym (eqb-true nu
 verdict-value : (number moves : ℕ) → refinedValue (verdict number moves) ≡ cond (eqb number 0) moves 0
 verdict-value number moves = split (eqb number 0) (λ p. rw p) (λ p. rw p)
 
-verdict-valid : (number moves : ℕ) → assignment.Valid ≡ cond (eqb number 0) assignment.Valid (assignment.Refused number) → refined.Moved moves ≡ verdict number moves
+verdict-valid : (number moves : ℕ) → assignment.Valid ≡ cond (eqb number 0) assignment.Valid (assignment.Refused number) → refined.Moved moves
+    ≡ verdict number moves
 verdict-valid number moves e = split (eqb number 0)
     (λ p. rw p)
     (λ p. let y : assignment.Valid ≡ assignment.Refused number = rw p at e in let z : _≡_ {A = ℕ} 0 1 = cc in absurd (omega arith))
 
 verdict-refused
-    : (n number moves : ℕ) → assignment.Refused n ≡ cond (eqb number 0) assignment.Valid (assignment.Refused number) → refined.Refused n ≡ verdict number moves
+    : (n number moves : ℕ) → assignment.Refused n ≡ cond (eqb number 0) assignment.Valid (assignment.Refused number) → refined.Refused n
+    ≡ verdict number moves
 verdict-refused n number moves e = split (eqb number 0)
     (λ p. let y : assignment.Refused n ≡ assignment.Valid = rw p at e in let z : _≡_ {A = ℕ} 0 1 = cc in absurd (omega arith))
     (λ p. let y : assignment.Refused n ≡ assignment.Refused number = rw p at e in let z : n ≡ number = cc in rw (p, z))
@@ -198,7 +206,8 @@ module _ {w w₁ : List ℕ} {l : HierarchyLevel} {scratch : ℕ} (limits : Limi
   -- the loads are reckoned
   module _ {w₂ : List ℕ} (z : Clear w₁ scratch (2 * many)) (d : Loaded w₂ l scratch many) (k₂ : Kept scratch (scratch + many) w₂ w₁) where
     kept : Kept scratch (scratch + 2 * many) w₂ w
-    kept = kept-trans scratch (scratch + 2 * many) w₂ w₁ w (kept-wide scratch (scratch + many) scratch (scratch + 2 * many) w₂ w₁ (omega arith) (omega arith) k₂) k₁
+    kept = kept-trans scratch (scratch + 2 * many)
+        w₂ w₁ w (kept-wide scratch (scratch + many) scratch (scratch + 2 * many) w₂ w₁ (omega arith) (omega arith) k₂) k₁
 
     same-owners : ownersAt w₂ l ≡ ownersAt w l
     same-owners = owners-kept (q .ready) kept (omega arith)
@@ -242,7 +251,8 @@ module _ {w w₁ : List ℕ} {l : HierarchyLevel} {scratch : ℕ} (limits : Limi
         value = ap refinedValue e ∙ verdict-value number moves;
         ready = s .moving .weighed .ready;
         ranked = s .moving .weighed .ranked;
-        kept = kept-trans (l .owners) (scratch + 2 * many) w₃ w₂ w (s .kept) (kept-wide scratch (scratch + 2 * many) (l .owners) (scratch + 2 * many) w₂ w low (omega arith) kept);
+        kept = kept-trans (l .owners) (scratch + 2 * many) w₃ w₂ w (s .kept)
+            (kept-wide scratch (scratch + 2 * many) (l .owners) (scratch + 2 * many) w₂ w low (omega arith) kept);
       }
 
       module _ (a : Assignment) (t : AssignmentTold many (ownersAt w₃ l) a) where

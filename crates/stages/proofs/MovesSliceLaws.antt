@@ -69,7 +69,8 @@ module _ {w : List ℕ} {l : HierarchyLevel} {end : ℕ} (q : Ready w l end) whe
     entry-below i a b =
         let n : i - from < length (row (rowsAt w l) v) = rw (length-row (offsetsAt w l) (neighborsAt w l) (q .lists) v in-count) (omega arith) in
         let e : from + (i - from) ≡ i = omega arith in
-        let p : at (row (rowsAt w l) v) (i - from) ≡ at (neighborsAt w l) i = row-at (offsetsAt w l) (neighborsAt w l) (q .lists) v in-count (i - from) n ∙ ap (at (neighborsAt w l)) e in
+        let p : at (row (rowsAt w l) v) (i - from) ≡ at (neighborsAt w l) i = row-at (offsetsAt w l) (neighborsAt w l) (q .lists)
+        v in-count (i - from) n ∙ ap (at (neighborsAt w l)) e in
         omega (arith, row-below (offsetsAt w l) (neighborsAt w l) (q .lists) v in-count (i - from) n, vertices-all)
 
 -- what is kept of a level where only from its owners on something changed

@@ -15,7 +15,7 @@ use Rattle.links.specs.Graph.{row, linksTo, load}
 use Rattle.links.proofs.ListLaws.{split, iff-eq, all-to}
 use Rattle.links.proofs.PartLaws.{kept-set, kept-refl, kept-wide, part-set-in}
 use Rattle.stages.specs.Level.{offsetsAt, neighborsAt, rowsAt, weightsAt, ownersAt, Ready, balanceIn}
-use Rattle.stages.specs.Moves.{Step, move, after, mayLeave, target, destination, movePass}
+use Rattle.stages.specs.Moves.{Step, after, mayLeave, target, destination, movePass}
 use Rattle.stages.specs.MovesCode.{Clear, Roomed, Tallied, Weighed, Moving, Shifted, Stepped, offerOf, betterOffer, offered}
 use Rattle.stages.specs.declared.level.HierarchyLevel.{HierarchyLevel}
 use Rattle.stages.specs.declared.level.Limits.{Limits}
@@ -23,12 +23,13 @@ use Rattle.stages.specs.declared.moves.Offer.{Offer}
 use Rattle.stages.proofs.StepLaws.{foldl-append}
 use Rattle.stages.proofs.LoadSetLaws.{load-set, load-sum, load-holds}
 use Rattle.stages.proofs.TallyLaws.{part-snoc}
-use Rattle.stages.proofs.TargetLaws.{offerAt, bestOffer, target-found, target-rank}
+use Rattle.stages.proofs.TargetLaws.{noOffer, offerAt, bestOffer, target-found, target-rank}
 use Rattle.stages.proofs.MovesSliceLaws.{neighbors-all, weights-all, owners-all, rows-all, row-part, row-ends, rows-kept, weights-kept, owners-kept, ready-kept, ready-by}
 
 -- the tallies stand behind the loads
 pub tallies-roomed : {w : List ℕ} {l : HierarchyLevel} {scratch ranks : ℕ} → Weighed w l scratch ranks → Roomed w l (scratch + ranks) ranks
-tallies-roomed {w} {l} {scratch} {ranks} q = record { ready = ready-by (scratch + ranks) (q .ready) (omega arith) (omega (arith, q .room)); room = omega (arith, q .room); ranked = q .ranked }
+tallies-roomed {w} {l} {scratch} {ranks} q =
+    record { ready = ready-by (scratch + ranks) (q .ready) (omega arith) (omega (arith, q .room)); room = omega (arith, q .room); ranked = q .ranked }
 
 pub weighed-whole : {w : List ℕ} {l : HierarchyLevel} {scratch ranks : ℕ} → Weighed w l scratch ranks → Ready w l (length w)
 weighed-whole {w} {l} {scratch} {ranks} q = ready-by (length w) (q .ready) (omega (arith, q .room)) (omega arith)
@@ -40,7 +41,7 @@ abbrev pub bestTo : List ℕ → HierarchyLevel → Limits → ℕ → ℕ → O
 bestTo w l limits v i =
     bestOffer (balanceIn limits) (rowsAt w l) (weightsAt w l) (ownersAt w l) v (part (neighborsAt w l) (at (offsetsAt w l) v) i)
 
-pub best-start : (w : List ℕ) (l : HierarchyLevel) (limits : Limits) (v : ℕ) → bestTo w l limits v (at (offsetsAt w l) v) ≡ record { gain = 0; rank = 0 }
+pub best-start : (w : List ℕ) (l : HierarchyLevel) (limits : Limits) (v : ℕ) → bestTo w l limits v (at (offsetsAt w l) v) ≡ noOffer
 best-start w l limits v = let e : at (offsetsAt w l) v - at (offsetsAt w l) v ≡ 0 = omega arith in rw e
 
 module _ {w : List ℕ} {l : HierarchyLevel} {scratch : ℕ} (limits : Limits) (q : Weighed w l scratch (limits .ranks)) (v : ℕ) (h : v < l .vertices) where
@@ -84,17 +85,20 @@ module _ {w : List ℕ} {l : HierarchyLevel} {scratch : ℕ} (limits : Limits) (
         → best′ ≡ bestTo w l limits v (i + 1)
     best-turn mine weight home i r best o best′ a b c from to d e f g k =
         let step : Offer → ℕ → Offer = λ x u. betterOffer x (offerAt (balanceIn limits) rows ws os v (at os u)) in
-        let u : o ≡ offerAt (balanceIn limits) rows ws os v (at os (at (neighborsAt w l) i)) = g ∙ offer-is mine weight home r a b c e ∙ ap (offerAt (balanceIn limits) rows ws os v) d in
-        let s : part (neighborsAt w l) (at (offsetsAt w l) v) (i + 1) ≡ part (neighborsAt w l) (at (offsetsAt w l) v) i ++ (at (neighborsAt w l) i ∷ []) =
+        let u : o ≡ offerAt (balanceIn limits) rows ws os v (at os (at (neighborsAt w l) i)) = g ∙ offer-is mine weight home r a b c e
+        ∙ ap (offerAt (balanceIn limits) rows ws os v) d in
+        let s : part (neighborsAt w l) (at (offsetsAt w l) v) (i + 1) ≡ part (neighborsAt w l) (at (offsetsAt w l) v)
+        i ++ (at (neighborsAt w l) i ∷ []) =
         part-snoc (neighborsAt w l) (at (offsetsAt w l) v) i from (omega (arith, row-ends (q .ready) v h, neighbors-all (q .ready))) in
         k ∙ rw (f, u)
-        (sym (ap (foldl step (record { gain = 0; rank = 0 })) s
-        ∙ foldl-append step (part (neighborsAt w l) (at (offsetsAt w l) v) i) (at (neighborsAt w l) i ∷ []) (record { gain = 0; rank = 0 })))
+        (sym (ap (foldl step noOffer) s
+        ∙ foldl-append step (part (neighborsAt w l) (at (offsetsAt w l) v) i) (at (neighborsAt w l) i ∷ []) noOffer))
 
   row-ranked : All (λ u. at os u < limits .ranks) (row rows v)
   row-ranked =
       let n = rows-all (q .ready) in
-      all-to (λ u. u < length rows) (λ u. at os u < limits .ranks) (λ u k. q .ranked u (omega (arith, n))) (row rows v) (q .ready .lists .sound .below v (omega (arith, n)))
+      all-to (λ u. u < length rows) (λ u. at os u < limits .ranks) (λ u k. q .ranked u (omega (arith, n))) (row rows v)
+      (q .ready .lists .sound .below v (omega (arith, n)))
 
   pub best-end : offered (bestTo w l limits v (at (offsetsAt w l) (v + 1))) ≡ target (balanceIn limits) rows ws os v
   best-end = rw (← row-part (q .ready) v h) (target-found (balanceIn limits) rows ws os v row-ranked)
@@ -111,7 +115,8 @@ module _ {w : List ℕ} {l : HierarchyLevel} {scratch ranks : ℕ} (q : Weighed 
   -- v's weight is part of its rank's load
   pub load-covers : (home weight : ℕ) → home ≡ at (ownersAt w l) v → weight ≡ at (weightsAt w l) v → weight ≤ at w (scratch + home)
   load-covers home weight a b =
-      let e : at w (scratch + home) ≡ load (weightsAt w l) (ownersAt w l) (at (ownersAt w l) v) = ap (λ (x : ℕ). at w (scratch + x)) a ∙ q .loaded (at (ownersAt w l) v) (q .ranked v h) in
+      let e : at w (scratch + home) ≡ load (weightsAt w l) (ownersAt w l) (at (ownersAt w l) v) = ap (λ (x : ℕ). at w (scratch + x)) a
+      ∙ q .loaded (at (ownersAt w l) v) (q .ranked v h) in
       omega (arith, load-holds (weightsAt w l) (ownersAt w l) v (omega (arith, owners-all (q .ready))))
 
   pub may-leave
@@ -137,13 +142,17 @@ module _ {w : List ℕ} {l : HierarchyLevel} {scratch ranks : ℕ} (q : Weighed 
     -- the loads, by rank
     in-less : (r : ℕ) → r < ranks → at less (scratch + r) ≡ cond (eqb home r) (at w (scratch + r) - weight) (at w (scratch + r))
     in-less r m = split (eqb home r)
-        (λ p. let e : home ≡ r = eqb-true home r p in rw (p, ← e) (getD-set-same w (scratch + home) (at w (scratch + home) - weight) 0 (omega (arith, home-in, q .room))))
-        (λ p. let n = eqb-false home r p in rw p (getD-set-other w (scratch + home) (scratch + r) (at w (scratch + home) - weight) 0 (λ x. n (omega arith))))
+        (λ p. let e : home ≡ r = eqb-true home r p in
+        rw (p, ← e) (getD-set-same w (scratch + home) (at w (scratch + home) - weight) 0 (omega (arith, home-in, q .room))))
+        (λ p. let n = eqb-false home r p in rw p (getD-set-other w (scratch + home) (scratch + r) (at w (scratch + home) - weight)
+        0 (λ x. n (omega arith))))
 
     in-more : (r : ℕ) → r < ranks → at more (scratch + r) ≡ cond (eqb rank r) (at less (scratch + r) + weight) (at less (scratch + r))
     in-more r m = split (eqb rank r)
-        (λ p. let e : rank ≡ r = eqb-true rank r p in rw (p, ← e) (getD-set-same less (scratch + rank) (at less (scratch + rank) + weight) 0 (simp length-set (omega (arith, q .room)))))
-        (λ p. let n = eqb-false rank r p in rw p (getD-set-other less (scratch + rank) (scratch + r) (at less (scratch + rank) + weight) 0 (λ x. n (omega arith))))
+        (λ p. let e : rank ≡ r = eqb-true rank r p in
+        rw (p, ← e) (getD-set-same less (scratch + rank) (at less (scratch + rank) + weight) 0 (simp length-set (omega (arith, q .room)))))
+        (λ p. let n = eqb-false rank r p in rw p (getD-set-other less (scratch + rank) (scratch + r) (at less (scratch + rank) + weight)
+        0 (λ x. n (omega arith))))
 
     -- a load is at most the total
     load-low : (r : ℕ) → r < ranks → at w (scratch + r) < 2 ^ 31
@@ -161,15 +170,18 @@ module _ {w : List ℕ} {l : HierarchyLevel} {scratch ranks : ℕ} (q : Weighed 
     moved-load : (r : ℕ) → r < ranks → at more (scratch + r) ≡ load (weightsAt w l) (set (ownersAt w l) v rank) r
     moved-load r m =
         let s = load-set (weightsAt w l) (ownersAt w l) v rank r (omega (arith, owners-all (q .ready))) (omega (arith, weights-all (q .ready))) in
-        let s′ : load (weightsAt w l) (set (ownersAt w l) v rank) r + cond (eqb home r) weight 0 ≡ load (weightsAt w l) (ownersAt w l) r + cond (eqb rank r) weight 0 = rw (a, b) s in
+        let s′ : load (weightsAt w l) (set (ownersAt w l) v rank) r + cond (eqb home r) weight 0 ≡ load (weightsAt w l) (ownersAt w l)
+        r + cond (eqb rank r) weight 0 = rw (a, b) s in
         let o = q .loaded r m in
         let x = in-less r m in
         let y = in-more r m in
         split (eqb home r)
         (λ p.
         let c : weight ≤ at w (scratch + r) = rw (← eqb-true home r p) (load-covers home weight a b) in
-        split (eqb rank r) (λ n. omega (arith, simp (p, n) at s′, rw p at x, rw n at y)) (λ n. omega (arith, simp (p, n) at s′, rw p at x, rw n at y)))
-        (λ p. split (eqb rank r) (λ n. omega (arith, simp (p, n) at s′, rw p at x, rw n at y)) (λ n. omega (arith, simp (p, n) at s′, rw p at x, rw n at y)))
+        split (eqb rank r) (λ n. omega (arith, simp (p, n) at s′, rw p at x, rw n at y))
+        (λ n. omega (arith, simp (p, n) at s′, rw p at x, rw n at y)))
+        (λ p. split (eqb rank r) (λ n. omega (arith, simp (p, n) at s′, rw p at x, rw n at y))
+        (λ n. omega (arith, simp (p, n) at s′, rw p at x, rw n at y)))
 
     low : l .owners + l .vertices ≤ scratch
     low = omega (arith, q .ready .laid)
@@ -177,13 +189,15 @@ module _ {w : List ℕ} {l : HierarchyLevel} {scratch ranks : ℕ} (q : Weighed 
     kept-more : Kept (l .owners) (scratch + ranks) more w
     kept-more =
         kept-set (l .owners) (scratch + ranks) less w (scratch + rank) (at less (scratch + rank) + weight)
-        (kept-set (l .owners) (scratch + ranks) w w (scratch + home) (at w (scratch + home) - weight) (kept-refl (l .owners) (scratch + ranks) w) (omega (arith, low)) (omega (arith, home-in)))
+        (kept-set (l .owners) (scratch + ranks) w w (scratch + home) (at w (scratch + home) - weight) (kept-refl (l .owners) (scratch + ranks) w)
+        (omega (arith, low)) (omega (arith, home-in)))
         (omega (arith, low)) (omega arith)
 
     kept-loads : Kept scratch (scratch + ranks) more w
     kept-loads =
         kept-set scratch (scratch + ranks) less w (scratch + rank) (at less (scratch + rank) + weight)
-        (kept-set scratch (scratch + ranks) w w (scratch + home) (at w (scratch + home) - weight) (kept-refl scratch (scratch + ranks) w) (omega arith) (omega (arith, home-in)))
+        (kept-set scratch (scratch + ranks) w w (scratch + home) (at w (scratch + home) - weight) (kept-refl scratch (scratch + ranks) w)
+        (omega arith) (omega (arith, home-in)))
         (omega arith) (omega arith)
 
     set-ranked : (u : ℕ) → u < l .vertices → at (set (ownersAt w l) v rank) u < ranks
@@ -194,7 +208,8 @@ module _ {w : List ℕ} {l : HierarchyLevel} {scratch ranks : ℕ} (q : Weighed 
     pub shifted : (w′ : List ℕ) → w′ ≡ set more (l .owners + v) rank → Shifted w w′ l scratch ranks v rank
     shifted w′ e =
         let n : length more ≡ length w = kept-more .same-length in
-        let kept : Kept (l .owners) (scratch + ranks) w′ w = rw e (kept-set (l .owners) (scratch + ranks) more w (l .owners + v) rank kept-more (omega arith) (omega (arith, low))) in
+        let kept : Kept (l .owners) (scratch + ranks)
+        w′ w = rw e (kept-set (l .owners) (scratch + ranks) more w (l .owners + v) rank kept-more (omega arith) (omega (arith, low))) in
         let owners : ownersAt w′ l ≡ set (ownersAt w l) v rank =
         ap (λ (x : List ℕ). ownersAt x l) e
         ∙ part-set-in more (l .owners) (l .owners + l .vertices) v rank (omega arith) (omega (arith, q .ready .laid, q .ready .inside)) (omega arith)
@@ -207,7 +222,8 @@ module _ {w : List ℕ} {l : HierarchyLevel} {scratch ranks : ℕ} (q : Weighed 
             room = rw (kept .same-length) (q .room);
             few = q .few;
             ranked = λ u m. rw owners (set-ranked u m);
-            loaded = λ r m. rw (owners, weights) (ap (λ (x : List ℕ). at x (scratch + r)) e ∙ getD-set-other more (l .owners + v) (scratch + r) rank 0 (λ x. omega (arith, low)) ∙ moved-load r m);
+            loaded = λ r m. rw (owners, weights) (ap (λ (x : List ℕ). at x (scratch + r)) e ∙ getD-set-other more (l .owners + v) (scratch + r)
+                rank 0 (λ x. omega (arith, low)) ∙ moved-load r m);
           };
           kept = kept;
         }
@@ -252,9 +268,10 @@ module _ {w w₁ : List ℕ} {l : HierarchyLevel} {scratch ranks : ℕ} (q : Wei
   }
 
   pub target-kept
-      : (limits : Limits) (v : ℕ)
-      → target (balanceIn limits) (rowsAt w₁ l) (weightsAt w₁ l) (ownersAt w₁ l) v ≡ target (balanceIn limits) (rowsAt w l) (weightsAt w l) (ownersAt w l) v
-  target-kept limits v = rw (rows-kept (q .ready) k below, weights-kept (q .ready) k below, same-owners)
+      : (limits : Limits) (v : ℕ) (o : Option ℕ)
+      → o ≡ target (balanceIn limits) (rowsAt w₁ l) (weightsAt w₁ l) (ownersAt w₁ l) v
+      → o ≡ target (balanceIn limits) (rowsAt w l) (weightsAt w l) (ownersAt w l) v
+  target-kept limits v o e = e ∙ rw (rows-kept (q .ready) k below, weights-kept (q .ready) k below, same-owners)
 
 module _ {w : List ℕ} {l : HierarchyLevel} {scratch : ℕ} (limits : Limits) (m : Moving w l scratch (limits .ranks)) (v : ℕ) where
   abbrev steps : List Step
@@ -274,13 +291,16 @@ module _ {w : List ℕ} {l : HierarchyLevel} {scratch : ℕ} (limits : Limits) (
     kept = kept-refl (l .owners) (scratch + 2 * limits .ranks) w;
   }
 
-  pub may-not : leaving ≡ false → Stepped w w l scratch (limits .ranks) steps 0
+  pub may-not : (r : Bool) → r ≡ leaving → r ≡ false → Stepped w w l scratch (limits .ranks) steps 0
   unfolding movePass destination
-  may-not e = stays (rw e)
+  may-not r d f = let e : leaving ≡ false = sym d ∙ f in stays (rw e)
 
-  pub nowhere : leaving ≡ true → (o : Offer) → offered o ≡ goal → o .gain ≡ 0 → Stepped w w l scratch (limits .ranks) steps 0
+  pub nowhere : (r : Bool) → r ≡ leaving → r ≡ true → (o : Offer) → offered o ≡ goal → o .gain ≡ 0 → Stepped w w l scratch (limits .ranks) steps 0
   unfolding movePass destination offered
-  nowhere e o f g = let t : goal ≡ none = sym f ∙ rw g in stays (rw (e, t))
+  nowhere r d y o f g =
+      let e : leaving ≡ true = sym d ∙ y in
+      let t : goal ≡ none = sym f ∙ rw g in
+      stays (rw (e, t))
 
   offer-taken : (o : Offer) → offered o ≡ goal → (o .gain ≡ 0 → ⊥) → goal ≡ some (o .rank)
   unfolding offered
@@ -290,7 +310,9 @@ module _ {w : List ℕ} {l : HierarchyLevel} {scratch : ℕ} (limits : Limits) (
   goes-in o f g = target-rank (balanceIn limits) (rowsAt w l) (weightsAt w l) (ownersAt w l) v (o .rank) (offer-taken o f g)
 
   pub goes
-      : leaving ≡ true
+      : (r : Bool)
+      → r ≡ leaving
+      → r ≡ true
       → (o : Offer)
       → offered o ≡ goal
       → (o .gain ≡ 0 → ⊥)
@@ -298,7 +320,8 @@ module _ {w : List ℕ} {l : HierarchyLevel} {scratch : ℕ} (limits : Limits) (
       → Shifted w w′ l scratch (limits .ranks) v (o .rank)
       → Stepped w w′ l scratch (limits .ranks) steps 1
   unfolding movePass destination after
-  goes e o f g w′ s =
+  goes r d y o f g w′ s =
+      let e : leaving ≡ true = sym d ∙ y in
       let t = offer-taken o f g in
       record {
         owners = rw (e, t) (s .owners);

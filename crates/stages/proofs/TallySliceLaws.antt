@@ -1,5 +1,5 @@
 -- The tallies of a vertex in the work slice: what a turn of the loops over its row does. Assumes nothing.
-use Prim.Native.Nat.{ℕ, _+_, _-_, _≤_, _<_, _^_}
+use Prim.Native.Nat.{ℕ, _+_, _-_, _≤_, _<_}
 use mathlib.Core.Path.{_≡_, sym, ap, _∙_}
 use mathlib.Core.Bool.{true, false}
 use mathlib.Core.List.{List}
@@ -10,8 +10,8 @@ use lib.Dec.{eqb}
 use borrow.Author.Tests.{eqb-true, eqb-false}
 use Rattle.links.specs.Lists.{at}
 use Rattle.links.specs.Parts.{part, Kept}
-use Rattle.links.specs.Graph.{row, linksIn}
-use Rattle.links.proofs.ListLaws.{split, tally}
+use Rattle.links.specs.Graph.{linksIn}
+use Rattle.links.proofs.ListLaws.{split}
 use Rattle.links.proofs.PartLaws.{length-part, kept-set, kept-refl}
 use Rattle.stages.specs.Level.{offsetsAt, neighborsAt, ownersAt, Ready}
 use Rattle.stages.specs.declared.level.HierarchyLevel.{HierarchyLevel}
@@ -78,7 +78,8 @@ module _ {w₀ : List ℕ} {l : HierarchyLevel} {tallies ranks v : ℕ} (t : Roo
     -- a tally is below 2^32
     pub tally-fits : at w (tallies + r) + 1 ≤ 131072
     tally-fits =
-        let n : length (part (neighborsAt w₀ l) from i) ≡ i - from = length-part (neighborsAt w₀ l) from i a (omega (arith, ends, neighbors-all (t .ready))) in
+        let n : length (part (neighborsAt w₀ l) from i) ≡ i - from = length-part (neighborsAt w₀ l)
+        from i a (omega (arith, ends, neighbors-all (t .ready))) in
         omega (arith, d .counts r (owner-in (d .kept) i a b r e), links-few (part (neighborsAt w₀ l) from i) (ownersAt w₀ l) r, ends, t .ready .short)
 
     pub tally-turn : (w′ : List ℕ) → w′ ≡ set w (tallies + r) (at w (tallies + r) + 1) → TallyTo w₀ w′ l tallies ranks v (i + 1)
@@ -93,12 +94,14 @@ module _ {w₀ : List ℕ} {l : HierarchyLevel} {tallies ranks v : ℕ} (t : Roo
               (λ p.
               let g : r ≡ s = eqb-true r s p in
               let y : eqb (owner i) s ≡ true = rw o p in
-              let z : at (set w (tallies + r) (at w (tallies + r) + 1)) (tallies + s) ≡ at w (tallies + s) + 1 = rw (← g) (stored (d .kept) i a b r (at w (tallies + r) + 1) h) in
+              let z : at (set w (tallies + r) (at w (tallies + r) + 1)) (tallies + s) ≡ at w (tallies + s) + 1 = rw (← g)
+              (stored (d .kept) i a b r (at w (tallies + r) + 1) h) in
               rw f (omega (arith, d .counts s m, rw y at n)))
               (λ p.
               let g = eqb-false r s p in
               let y : eqb (owner i) s ≡ false = rw o p in
-              let z : at (set w (tallies + r) (at w (tallies + r) + 1)) (tallies + s) ≡ at w (tallies + s) = getD-set-other w (tallies + r) (tallies + s) (at w (tallies + r) + 1) 0 (λ x. g (omega arith)) in
+              let z : at (set w (tallies + r) (at w (tallies + r) + 1)) (tallies + s) ≡ at w (tallies + s) = getD-set-other w (tallies + r)
+              (tallies + s) (at w (tallies + r) + 1) 0 (λ x. g (omega arith)) in
               rw f (omega (arith, d .counts s m, rw y at n)));
         }
 

@@ -262,6 +262,10 @@ foldl-map : {A B C : Type 0} (f : C → B → C) (h : A → B) (c : C) (xs : Lis
 foldl-map f h c [] = refl
 foldl-map f h c (x ∷ xs) = foldl-map f h (f c (h x)) xs
 
+-- the best so far before any is met
+abbrev pub noOffer : Offer
+noOffer = record { gain = 0; rank = 0 }
+
 module _ (b : Balance) (rows : List (List ℕ)) (weights owners : List ℕ) (v : ℕ) where
   -- what rank r offers v
   abbrev pub offerAt : ℕ → Offer
@@ -269,7 +273,7 @@ module _ (b : Balance) (rows : List (List ℕ)) (weights owners : List ℕ) (v :
 
   -- the best of what the owners of the listed vertices offer v
   abbrev pub bestOffer : List ℕ → Offer
-  bestOffer us = foldl (λ o u. betterOffer o (offerAt (at owners u))) (record { gain = 0; rank = 0 }) us
+  bestOffer us = foldl (λ o u. betterOffer o (offerAt (at owners u))) noOffer us
 
   abbrev passing : ℕ → Bool
   passing r = ltb 0 (gain rows owners (move v r)) && mayJoin b rows weights owners v r
@@ -289,7 +293,8 @@ module _ (b : Balance) (rows : List (List ℕ)) (weights owners : List ℕ) (v :
 
   agrees : (i j : ℕ) → i < j → passing i ≡ true → passing j ≡ true → preferred b rows weights owners v j i ≡ wins (λ r. offerAt r .gain) j i
   unfolding preferred
-  agrees i j h p q = rw (gain-is i p, gain-is j q, le-ltb j i (omega arith)) (go (ltb (gain rows owners (move v i)) (gain rows owners (move v j))) (eqb (gain rows owners (move v j)) (gain rows owners (move v i))))
+  agrees i j h p q = rw (gain-is i p, gain-is j q, le-ltb j i (omega arith))
+      (go (ltb (gain rows owners (move v i)) (gain rows owners (move v j))) (eqb (gain rows owners (move v j)) (gain rows owners (move v i))))
     where
       go : (x y : Bool) → x ≡ (x || (y && false))
       go true y = refl
@@ -300,7 +305,7 @@ module _ (b : Balance) (rows : List (List ℕ)) (weights owners : List ℕ) (v :
   unfolding offerOf
   own r = refl
 
-  start : offered (record { gain = 0; rank = 0 }) ≡ none
+  start : offered noOffer ≡ none
   unfolding offered
   start = refl
 
@@ -318,9 +323,10 @@ module _ (b : Balance) (rows : List (List ℕ)) (weights owners : List ℕ) (v :
       let rs = map (at owners) (row rows v) in
       let P : ℕ → Type 0 = λ s. (s < b .ranks) × (passing s ≡ true) in
       let nobody : ℕ → Type 0 = λ s. ⊥ in
-      ap offered (foldl-map (λ o r. betterOffer o (offerAt r)) (at owners) (record { gain = 0; rank = 0 }) (row rows v))
-      ∙ offered-list offerAt own passing opens rs (record { gain = 0; rank = 0 }) (inl refl)
-      ∙ top-unique g P (foldl (step (wins g) passing) (offered (record { gain = 0; rank = 0 })) rs) (best (preferred b rows weights owners v) (filter passing (range 0 (b .ranks))))
+      ap offered (foldl-map (λ o r. betterOffer o (offerAt r)) (at owners) noOffer (row rows v))
+      ∙ offered-list offerAt own passing opens rs noOffer (inl refl)
+      ∙ top-unique g P (foldl (step (wins g) passing) (offered noOffer) rs)
+      (best (preferred b rows weights owners v) (filter passing (range 0 (b .ranks))))
       (rw start (top-list g passing rs nobody P none (top-none g nobody (λ s h. h))
       (λ s h. absurd h)
       (λ s e p. (all-in (λ r. r < b .ranks) rs s (all-map (λ r. r < b .ranks) (at owners) (row rows v) a) e, p))

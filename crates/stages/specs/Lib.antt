@@ -6,4 +6,6 @@ pub mod Moves
 pub mod Swaps
 pub mod Slots
 pub mod SwapsCode
+pub mod CoarsenCode
+pub mod CoarsenParts
 pub mod MovesCode

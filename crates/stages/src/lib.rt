@@ -1,9 +1,12 @@
 // The five stages of a division: coarsening, seeds, growth, moves, swaps (rules 3 to 7 of document 01), over one lent work slice.
+mod coarsen;
 mod level;
 mod moves;
 mod slots;
 mod swaps;
 
+pub use coarsen::Coarsened;
+pub use coarsen::coarsen_once_cached;
 pub use level::HierarchyLevel;
 pub use level::Limits;
 pub use moves::Refined;

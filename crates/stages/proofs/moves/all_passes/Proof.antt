@@ -1,3 +1,4 @@
+-- The invariant: what is left of the passes leads to the same end. The moves are at most the neighbor entries, so the count fits. Assumes nothing.
 use Prim.Native.Nat.{_-_, _≤_}
 use mathlib.Core.Path.{_∙_}
 use native.Mathlib.Omega.{arith}
@@ -18,7 +19,10 @@ pass-requires : tie.Need-pass-requires Inv-loop μ-loop
 pass-requires c κs = c .before .before .loop .inv .1 .moving
 
 add-p : tie.Need-add-p Inv-loop μ-loop
-add-p c = record { fits = omega (arith, c .before .before .before .before .loop-test .taken, c .before .before .before .before .before .before .before .fits) }
+add-p c =
+    let c4 = c .before .before .before .before in
+    let c7 = c4 .before .before .before in
+    record { fits = omega (arith, c4 .loop-test .taken, c7 .fits) }
 
 same-length : tie.Need-same-length Inv-loop μ-loop
 same-length c =
@@ -27,27 +31,46 @@ same-length c =
 
 returns : tie.Need-returns Inv-loop μ-loop
 returns c =
-    let l = c .before .before .before .before .before .before .loop in
-    repeat-stops (c .before .before .before .before .before .before .before .before .args .limits) (c .before .before .before .before .before .before .before .before .pre) (c .before .before .before .before .before .before .before .before .args .passes) (l .inv .1) (c .before .before .before .before .before .loop-test .taken) (c .before .before .before .pass .ensures) (c .if1 .taken)
+    let c3 = c .before .before .before in
+    let c5 = c3 .before .before in
+    let c6 = c5 .before in
+    let c8 = c6 .before .before in
+    let l = c6 .loop in
+    repeat-stops (c8 .args .limits) (c8 .pre) (c8 .args .passes) (l .inv .1) (c5 .loop-test .taken) (c3 .pass .ensures) (c .if1 .taken)
 
 add-total : tie.Need-add-total Inv-loop μ-loop
 add-total c =
-    let l = c .before .before .before .before .before .before .loop in
-    record { fits = omega (arith, total-few (c .before .before .before .before .before .before .before .before .args .limits) (c .before .before .before .before .before .before .before .before .pre) (c .before .before .before .before .before .before .before .before .args .passes) (repeat-goes (c .before .before .before .before .before .before .before .before .args .limits) (c .before .before .before .before .before .before .before .before .pre) (c .before .before .before .before .before .before .before .before .args .passes) (l .inv .1) (c .before .before .before .before .before .loop-test .taken) (c .before .before .before .pass .ensures) (c .if1 .left))) }
+    let c3 = c .before .before .before in
+    let c5 = c3 .before .before in
+    let c6 = c5 .before in
+    let c8 = c6 .before .before in
+    let l = c6 .loop in
+    let d = repeat-goes (c8 .args .limits) (c8 .pre) (c8 .args .passes) (l .inv .1) (c5 .loop-test .taken) (c3 .pass .ensures) (c .if1 .left) in
+    let f = total-few (c8 .args .limits) (c8 .pre) (c8 .args .passes) d in
+    record { fits = omega arith }
 
 loop-less : tie.Need-loop-less Inv-loop μ-loop
 loop-less c = omega (arith, c .before .before .before .before .before .loop-test .taken)
 
 loop-again : tie.Need-loop-again Inv-loop μ-loop
 loop-again c =
-    let l = c .before .before .before .before .before .before .loop in
-    (omega (arith, c .before .before .before .before .before .loop-test .taken), repeat-goes (c .before .before .before .before .before .before .before .before .args .limits) (c .before .before .before .before .before .before .before .before .pre) (c .before .before .before .before .before .before .before .before .args .passes) (l .inv .1) (c .before .before .before .before .before .loop-test .taken) (c .before .before .before .pass .ensures) (c .if1 .left))
+    let c3 = c .before .before .before in
+    let c5 = c3 .before .before in
+    let c6 = c5 .before in
+    let c8 = c6 .before .before in
+    let l = c6 .loop in (
+      omega (arith, c5 .loop-test .taken),
+      repeat-goes (c8 .args .limits) (c8 .pre) (c8 .args .passes) (l .inv .1) (c5 .loop-test .taken)
+          (c3 .pass .ensures) (c .if1 .left),
+    )
 
 same-length-2 : tie.Need-same-length-2 Inv-loop μ-loop
 same-length-2 c = c .before .loop .inv .1 .kept .same-length
 
 returns-2 : tie.Need-returns-2 Inv-loop μ-loop
-returns-2 c = repeat-done (c .before .before .before .args .limits) (c .before .before .before .pre) (c .before .before .before .args .passes) (c .loop-test .left) (c .before .loop .inv .1)
+returns-2 c =
+    let c3 = c .before .before .before in
+    repeat-done (c3 .args .limits) (c3 .pre) (c3 .args .passes) (c .loop-test .left) (c .before .loop .inv .1)
 
 pub all-passes-spec : {M : Type 1} → statement M
 all-passes-spec =

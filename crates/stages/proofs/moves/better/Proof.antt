@@ -1,3 +1,4 @@
+-- Each return is one arm of the definition. Assumes nothing.
 use borrow.Author.Tests.{lt-ltb, le-ltb, eq-eqb, ne-eqb}
 use Rattle.stages.specs.MovesCode.{betterOffer}
 use Rattle.stages.proofs.moves.better.Statement.{statement}

@@ -1,5 +1,5 @@
-use Prim.Native.Nat.{_+_, _-_}
-use mathlib.Core.Path.{_∙_}
+-- The tallies are made and cleared again, so that the slice is as it was. Assumes nothing.
+use Prim.Native.Nat.{_+_}
 use native.Mathlib.Omega.{arith}
 use Rattle.stages.proofs.MovesTurnLaws.{tallies-roomed, weighed-kept, target-kept, cleared-again}
 use borrow.Author.Needs.{needs}
@@ -29,11 +29,15 @@ same-length c = search needs
 
 returns : tie.Need-returns
 returns c =
-    let s = c .before .before .before .before .before .before .before .before .before .before .before .before in
-    let t = c .before .before .before .before .before .before .before .before .tally .ensures in
-    let u = c .before .before .untally .ensures in (
-      c .before .before .before .before .best-offer .ensures ∙ target-kept (s .pre .0 .weighed) (t .1) (s .args .limits) (s .args .v),
-      cleared-again (s .args .work .now) _ _ (s .args .scratch + s .args .limits .ranks) (s .args .limits .ranks) (s .pre .0 .clear) (t .1) (u .0) (u .1),
+    let c2 = c .before .before in
+    let c4 = c2 .before .before in
+    let c8 = c4 .before .before .before .before in
+    let s = c8 .before .before .before .before in
+    let t = c8 .tally .ensures in
+    let u = c2 .untally .ensures in (
+      target-kept (s .pre .0 .weighed) (t .1) (s .args .limits) (s .args .v) _ (c4 .best-offer .ensures),
+      cleared-again (s .args .work .now) _ _ (s .args .scratch + s .args .limits .ranks) (s .args .limits .ranks) (s .pre .0 .clear) (t .1) (u .0)
+          (u .1),
     )
 
 pub choose-spec : {M : Type 1} → statement M

@@ -1,3 +1,4 @@
+-- What a part that was filled with 0 holds. Assumes nothing.
 use Rattle.stages.proofs.LoadSliceLaws.{cleared}
 use borrow.Author.Needs.{needs}
 use Rattle.stages.proofs.moves.clear.Statement.{statement}
@@ -13,7 +14,10 @@ same-length : tie.Need-same-length
 same-length c = search needs
 
 returns : tie.Need-returns
-returns c = cleared (c .before .before .before .before .before .args .work .now) _ (c .before .before .before .before .before .args .a) (c .before .before .before .before .before .args .n) (c .before .before .before .before .before .pre) (c .before .before .fill-part .ensures)
+returns c =
+    let c2 = c .before .before in
+    let c5 = c2 .before .before .before in
+    cleared (c5 .args .work .now) _ (c5 .args .a) (c5 .args .n) (c5 .pre) (c2 .fill-part .ensures)
 
 pub clear-spec : {M : Type 1} → statement M
 clear-spec = tie.close (tie.spec add-fill-part fill-part-requires same-length returns)

@@ -1,3 +1,4 @@
+-- The test with the weight on the other side. Assumes nothing.
 use mathlib.Core.Path.{ap, _∙_}
 use lib.Dec.{leb}
 use Rattle.stages.proofs.MovesTurnLaws.{leaves}

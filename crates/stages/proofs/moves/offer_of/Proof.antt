@@ -1,3 +1,4 @@
+-- Each return is one arm of the definition. Assumes nothing.
 use Prim.Native.Nat.{_+_, _-_, _≤_, _<_}
 use mathlib.Core.Path.{_≡_}
 use native.Mathlib.Omega.{arith}
@@ -19,23 +20,31 @@ add-if1 c = search needs
 returns : tie.Need-returns
 unfolding offerOf
 returns c =
-    let s = c .before .before .before .args in
-    let k : s .cap < s .load + s .weight = omega (arith, c .if1 .taken, c .before .before .wide .ensures, c .before .wide2 .ensures) in
+    let c2 = c .before .before in
+    let c3 = c2 .before in
+    let s = c3 .args in
+    let k : s .cap < s .load + s .weight = omega (arith, c .if1 .taken, c2 .wide .ensures, c .before .wide2 .ensures) in
     rw (lt-leb (s .load + s .weight) (s .cap) k)
 
 returns-2 : tie.Need-returns-2
 unfolding offerOf
 returns-2 c =
-    let s = c .before .before .before .before .args in
-    let k : s .load + s .weight ≤ s .cap = omega (arith, c .before .if1 .left, c .before .before .before .wide .ensures, c .before .before .wide2 .ensures) in
+    let c2 = c .before .before in
+    let c3 = c2 .before in
+    let c4 = c3 .before in
+    let s = c4 .args in
+    let k : s .load + s .weight ≤ s .cap = omega (arith, c .before .if1 .left, c3 .wide .ensures, c2 .wide2 .ensures) in
     let z : s .there - s .home ≡ 0 = omega (arith, c .if2 .taken) in
     rw (le-leb (s .load + s .weight) (s .cap) k, z)
 
 returns-3 : tie.Need-returns-3
 unfolding offerOf
 returns-3 c =
-    let s = c .before .before .before .before .args in
-    let k : s .load + s .weight ≤ s .cap = omega (arith, c .before .if1 .left, c .before .before .before .wide .ensures, c .before .before .wide2 .ensures) in
+    let c2 = c .before .before in
+    let c3 = c2 .before in
+    let c4 = c3 .before in
+    let s = c4 .args in
+    let k : s .load + s .weight ≤ s .cap = omega (arith, c .before .if1 .left, c3 .wide .ensures, c2 .wide2 .ensures) in
     rw (le-leb (s .load + s .weight) (s .cap) k)
 
 pub offer-of-spec : {M : Type 1} → statement M

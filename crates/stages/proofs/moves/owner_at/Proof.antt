@@ -1,3 +1,4 @@
+-- A neighbor read by its place in the slice; then its owner. Assumes nothing.
 use mathlib.Core.Path.{sym, ap, _∙_}
 use Rattle.links.specs.Lists.{at}
 use Rattle.stages.specs.Level.{ownersAt}

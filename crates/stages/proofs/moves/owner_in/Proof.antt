@@ -1,3 +1,4 @@
+-- An owner read by its place in the slice. Assumes nothing.
 use mathlib.Core.Path.{sym, _∙_}
 use Rattle.stages.proofs.MovesSliceLaws.{owner-place}
 use borrow.Author.Needs.{needs}

@@ -1,4 +1,4 @@
-use Prim.Native.Nat.{_-_}
+-- Loads and tallies are set up, the passes made, and the check's answer is handed on. Assumes nothing.
 use native.Mathlib.Omega.{arith}
 use Rattle.stages.proofs.MovesSliceLaws.{ready-by}
 use Rattle.stages.proofs.MovesPassLaws.{cleared-roomed, weighed-moving, was-valid, was-refused}
@@ -20,15 +20,19 @@ weigh-requires c κs =
 
 all-passes-requires : tie.Need-all-passes-requires
 all-passes-requires c κs =
-    let s = c .before .before .before .before .before .before .before .before .before .before in
-    let k = c .before .before .before .before .before .before .before .clear .ensures in
-    let d = c .before .before .before .weigh .ensures in
+    let c3 = c .before .before .before in
+    let c7 = c3 .before .before .before .before in
+    let s = c7 .before .before .before in
+    let k = c7 .clear .ensures in
+    let d = c3 .weigh .ensures in
     weighed-moving (s .args .limits) (s .pre) (k .1) (k .0) (d .0) (d .1)
 
 check-owners-requires : tie.Need-check-owners-requires
 check-owners-requires c κs =
-    let m = c .before .before .before .all-passes .ensures .moving .weighed in
-    (ready-by _ (m .ready) (omega (arith, m .room)) (omega arith), c .before .before .before .before .before .before .before .before .before .before .before .before .before .before .pre .few)
+    let c3 = c .before .before .before in
+    let c14 = c3 .before .before .before .before .before .before .before .before .before .before .before in
+    let m = c3 .all-passes .ensures .moving .weighed in
+    (ready-by _ (m .ready) (omega (arith, m .room)) (omega arith), c14 .pre .few)
 
 enum-told : tie.Need-enum-told
 enum-told c = search needs
@@ -41,20 +45,30 @@ same-length c = search needs
 
 returns : tie.Need-returns
 returns c =
-    let s = c .before .before .before .before .before .before .before .before .before .before .before .before .before .before .before .before .before in
-    let k = c .before .before .before .before .before .before .before .before .before .before .before .before .before .before .clear .ensures in
-    let d = c .before .before .before .before .before .before .before .before .before .before .weigh .ensures in
-    was-valid (s .args .limits) (s .pre) (k .1) (k .0) (d .0) (d .1) (s .args .passes) (c .before .before .before .before .before .before .all-passes .ensures) (c .before .before .check-owners .result) (c .before .before .check-owners .ensures) (c .enum-told .given .1)
+    let c2 = c .before .before in
+    let c6 = c2 .before .before .before .before in
+    let c10 = c6 .before .before .before .before in
+    let c14 = c10 .before .before .before .before in
+    let s = c14 .before .before .before in
+    let k = c14 .clear .ensures in
+    let d = c10 .weigh .ensures in
+    was-valid (s .args .limits) (s .pre) (k .1) (k .0) (d .0) (d .1) (s .args .passes) (c6 .all-passes .ensures) (c2 .check-owners .result)
+    (c2 .check-owners .ensures) (c .enum-told .given .1)
 
 same-length-2 : tie.Need-same-length-2
 same-length-2 c = search needs
 
 returns-2 : tie.Need-returns-2
 returns-2 c =
-    let s = c .before .before .before .before .before .before .before .before .before .before .before .before .before .before .before .before .before .before in
-    let k = c .before .before .before .before .before .before .before .before .before .before .before .before .before .before .before .clear .ensures in
-    let d = c .before .before .before .before .before .before .before .before .before .before .before .weigh .ensures in
-    was-refused (s .args .limits) (s .pre) (k .1) (k .0) (d .0) (d .1) (s .args .passes) (c .before .before .before .before .before .before .before .all-passes .ensures) (c .before .before .before .check-owners .result) (c .before .before .before .check-owners .ensures) _ (c .before .checked .given .1)
+    let c3 = c .before .before .before in
+    let c7 = c3 .before .before .before .before in
+    let c11 = c7 .before .before .before .before in
+    let c15 = c11 .before .before .before .before in
+    let s = c15 .before .before .before in
+    let k = c15 .clear .ensures in
+    let d = c11 .weigh .ensures in
+    was-refused (s .args .limits) (s .pre) (k .1) (k .0) (d .0) (d .1) (s .args .passes) (c7 .all-passes .ensures) (c3 .check-owners .result)
+    (c3 .check-owners .ensures) _ (c .before .checked .given .1)
 
 pub refine-by-cut-spec : {M : Type 1} → statement M
 refine-by-cut-spec =

@@ -1,3 +1,4 @@
+-- An offset read by its place in the slice. Assumes nothing.
 use mathlib.Core.Path.{sym, _∙_}
 use Rattle.stages.proofs.MovesSliceLaws.{offset-place}
 use borrow.Author.Needs.{needs}

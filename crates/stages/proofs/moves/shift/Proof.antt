@@ -1,4 +1,5 @@
-use Prim.Native.Nat.{_+_, _-_, _<_}
+-- Three stores: the loads after them are those of the new owners. Assumes nothing.
+use Prim.Native.Nat.{_+_, _<_}
 use mathlib.Core.Path.{_∙_}
 use native.Mathlib.Omega.{arith}
 use lib.ListN.{length}
@@ -18,24 +19,39 @@ weight-in-requires : tie.Need-weight-in-requires
 weight-in-requires c κs = (weighed-whole (c .before .before .before .before .pre .0), c .before .before .before .before .pre .1)
 
 add-less : tie.Need-add-less
-add-less c = let h = within (c .before .before) in record { fits = omega (arith, c .before .before .before .before .before .pre .0 .room, c .before .before .before .before .before .good .0 .0) }
+add-less c =
+    let c2 = c .before .before in
+    let c5 = c2 .before .before .before in
+    let h = within c2 in record { fits = omega (arith, c5 .pre .0 .room, c5 .good .0 .0) }
 
 mul-less : tie.Need-mul-less
 mul-less c =
-    let h : c .before .before .before .before .before .args .scratch + c .before .before .owner-in .result < length (c .before .before .before .before .before .args .work .now) = (let k = within (c .before .before) in omega (arith, c .before .before .before .before .before .pre .0 .room)) in
+    let c2 = c .before .before in
+    let c5 = c2 .before .before .before in
+    let h : c5 .args .scratch + c2 .owner-in .result < length (c5 .args .work .now) = (let k = within c2 in omega (arith, c5 .pre .0 .room)) in
     search needs
 
 slice-read-less : tie.Need-slice-read-less
-slice-read-less c = let h = within (c .before .before .before) in omega (arith, c .before .before .before .before .before .before .pre .0 .room)
+slice-read-less c =
+    let c3 = c .before .before .before in
+    let c6 = c3 .before .before .before in
+    let h = within c3 in omega (arith, c6 .pre .0 .room)
 
 sub-less : tie.Need-sub-less
-sub-less c = load-covers (c .before .before .before .before .before .before .pre .0) (c .before .before .before .before .before .before .args .v) (c .before .before .before .before .before .before .pre .1) (c .before .before .before .owner-in .result) (c .before .weight-in .result) (c .before .before .before .owner-in .ensures) (c .before .weight-in .ensures)
+sub-less c =
+    let c3 = c .before .before .before in
+    let c6 = c3 .before .before .before in
+    load-covers (c6 .pre .0) (c6 .args .v) (c6 .pre .1) (c3 .owner-in .result) (c .before .weight-in .result) (c3 .owner-in .ensures)
+    (c .before .weight-in .ensures)
 
 add-store-part : tie.Need-add-store-part
 add-store-part c = search needs
 
 store-part-requires : tie.Need-store-part-requires
-store-part-requires c κs = let h = within (c .before .before .before .before) in (omega arith, omega (arith, c .before .before .before .before .before .before .before .pre .0 .room), omega arith)
+store-part-requires c κs =
+    let c4 = c .before .before .before .before in
+    let c7 = c4 .before .before .before in
+    let h = within c4 in (omega arith, omega (arith, c7 .pre .0 .room), omega arith)
 
 add-more : tie.Need-add-more
 add-more c = search needs
@@ -48,8 +64,12 @@ slice-read-more c = search needs
 
 add-more-2 : tie.Need-add-more-2
 add-more-2 c =
-    let s = c .before .before .before .before .before .before .before .before .before .before .before in
-    record { fits = rw (c .before .before .before .store-part .ensures) (more-fits (s .pre .0) (s .args .v) (s .pre .1) (s .args .rank) (s .pre .2) (c .before .before .before .before .before .before .before .before .owner-in .result) (c .before .before .before .before .before .before .weight-in .result) (c .before .before .before .before .before .before .before .before .owner-in .ensures) (c .before .before .before .before .before .before .weight-in .ensures)) }
+    let c3 = c .before .before .before in
+    let c6 = c3 .before .before .before in
+    let c8 = c6 .before .before in
+    let s = c8 .before .before .before in
+    let f = more-fits (s .pre .0) (s .args .v) (s .pre .1) (s .args .rank) (s .pre .2) (c8 .owner-in .result) (c6 .weight-in .result) (c8 .owner-in .ensures) (c6 .weight-in .ensures) in
+    record { fits = rw (c3 .store-part .ensures) f }
 
 add-store-part-2 : tie.Need-add-store-part-2
 add-store-part-2 c = search needs
@@ -71,9 +91,15 @@ same-length c = search needs
 
 returns : tie.Need-returns
 returns c =
-    let s = c .before .before .before .before .before .before .before .before .before .before .before .before .before .before .before .before .before .before .before .before in
-    shifted (s .pre .0) (s .args .v) (s .pre .1) (s .args .rank) (s .pre .2) (c .before .before .before .before .before .before .before .before .before .before .before .before .before .before .before .before .before .owner-in .result) (c .before .before .before .before .before .before .before .before .before .before .before .before .before .before .before .weight-in .result) (c .before .before .before .before .before .before .before .before .before .before .before .before .before .before .before .before .before .owner-in .ensures) (c .before .before .before .before .before .before .before .before .before .before .before .before .before .before .before .weight-in .ensures) (c .before .before .store-part3 .last .0)
-    (c .before .before .store-part3 .ensures ∙ rw (c .before .before .before .before .before .before .before .store-part2 .ensures, c .before .before .before .before .before .before .before .before .before .before .before .before .store-part .ensures))
+    let c2 = c .before .before in
+    let c7 = c2 .before .before .before .before .before in
+    let c12 = c7 .before .before .before .before .before in
+    let c15 = c12 .before .before .before in
+    let c17 = c15 .before .before in
+    let s = c17 .before .before .before in
+    shifted (s .pre .0) (s .args .v) (s .pre .1) (s .args .rank) (s .pre .2) (c17 .owner-in .result) (c15 .weight-in .result) (c17 .owner-in .ensures)
+    (c15 .weight-in .ensures) (c2 .store-part3 .last .0)
+    (c2 .store-part3 .ensures ∙ rw (c7 .store-part2 .ensures, c12 .store-part .ensures))
 
 pub shift-spec : {M : Type 1} → statement M
 shift-spec =

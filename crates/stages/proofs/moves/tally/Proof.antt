@@ -1,3 +1,4 @@
+-- The invariant: the tallies are the entries before i, counted by their owners. Assumes nothing.
 use Prim.Native.Nat.{_+_, _-_, _≤_, _<_}
 use mathlib.Core.Path.{_≡_}
 use native.Mathlib.Omega.{arith}
@@ -17,11 +18,15 @@ abbrev μ-loop : tie.MeasureT-loop
 μ-loop work₀ l tallies ranks v end i₀ work i = end - i
 
 -- the rank of a turn
-within : (c : tie.After-owner-at Inv-loop μ-loop) → c .owner-at .result < c .before .before .before .before .before .before .before .before .before .args .ranks
+within : (c : tie.After-owner-at Inv-loop μ-loop)
+    → c .owner-at .result < c .before .before .before .before .before .before .before .before .before .args .ranks
 within c =
-    let s = c .before .before .before .before .before .before .before .before .before in
-    let l = c .before .before .before .loop in
-    owner-in (s .pre .0) (s .pre .1) (l .inv .3 .kept) (l .i) (l .inv .0) (omega (arith, c .before .before .loop-test .taken, l .inv .2)) (c .owner-at .result) (c .owner-at .ensures)
+    let c2 = c .before .before in
+    let c3 = c2 .before in
+    let s = c3 .before .before .before .before .before .before in
+    let l = c3 .loop in
+    owner-in (s .pre .0) (s .pre .1) (l .inv .3 .kept) (l .i) (l .inv .0) (omega (arith, c2 .loop-test .taken, l .inv .2)) (c .owner-at .result)
+    (c .owner-at .ensures)
 
 add-row-start : tie.Need-add-row-start Inv-loop μ-loop
 add-row-start c = search needs
@@ -34,39 +39,55 @@ row-start-requires-2 c κs = let s = c .before .before .before .before in (whole
 
 loop-holds : tie.Need-loop-holds Inv-loop μ-loop
 loop-holds c =
-    let s = c .before .before .before .before .before in
+    let c2 = c .before .before in
+    let s = c2 .before .before .before in
     let e : c .row-start2 .result ≡ at (offsetsAt (s .args .work .now) (s .args .l)) (s .args .v) = c .row-start2 .ensures in
-    let f : c .before .before .row-start .result ≡ at (offsetsAt (s .args .work .now) (s .args .l)) (s .args .v + 1) = c .before .before .row-start .ensures in
+    let f : c2 .row-start .result ≡ at (offsetsAt (s .args .work .now) (s .args .l)) (s .args .v + 1) = c2 .row-start .ensures in
     (omega arith, omega (arith, rises (s .pre .0) (s .pre .1)), f, rw e (tally-start (s .pre .0) (s .pre .1) (s .pre .2)))
 
 owner-at-requires : tie.Need-owner-at-requires Inv-loop μ-loop
 owner-at-requires c κs =
-    let s = c .before .before .before .before .before .before .before .before in
-    let l = c .before .before .loop in
+    let c2 = c .before .before in
+    let s = c2 .before .before .before .before .before .before in
+    let l = c2 .loop in
     owner-asks (s .pre .0) (s .pre .1) (l .inv .3 .kept) (l .i) (l .inv .0) (omega (arith, c .before .loop-test .taken, l .inv .2))
 
 add-t : tie.Need-add-t Inv-loop μ-loop
-add-t c = let h = within c in record { fits = omega (arith, c .before .before .before .before .before .before .before .before .before .pre .0 .room, c .before .before .before .before .before .before .before .before .before .good .0 .0) }
+add-t c =
+    let c9 = c .before .before .before .before .before .before .before .before .before in
+    let h = within c in record { fits = omega (arith, c9 .pre .0 .room, c9 .good .0 .0) }
 
 mul-t : tie.Need-mul-t Inv-loop μ-loop
 mul-t c =
-    let h : c .before .before .before .before .before .before .before .before .before .args .tallies + c .owner-at .result < length (c .before .before .before .before .before .before .before .before .before .args .work .now) = (let k = within c in omega (arith, c .before .before .before .before .before .before .before .before .before .pre .0 .room)) in
+    let c9 = c .before .before .before .before .before .before .before .before .before in
+    let h : c9 .args .tallies + c .owner-at .result < length (c9 .args .work .now) = (let k = within c in omega (arith, c9 .pre .0 .room)) in
     search needs
 
 slice-read-t : tie.Need-slice-read-t Inv-loop μ-loop
-slice-read-t c = let h = within (c .before) in omega (arith, c .before .before .before .before .before .before .before .before .before .before .pre .0 .room, c .before .before .before .before .loop .inv .3 .kept .same-length)
+slice-read-t c =
+    let c4 = c .before .before .before .before in
+    let c10 = c4 .before .before .before .before .before .before in
+    let h = within (c .before) in omega (arith, c10 .pre .0 .room, c4 .loop .inv .3 .kept .same-length)
 
 add-store-part : tie.Need-add-store-part Inv-loop μ-loop
 add-store-part c = search needs
 
 add-store-part-2 : tie.Need-add-store-part-2 Inv-loop μ-loop
 add-store-part-2 c =
-    let s = c .before .before .before .before .before .before .before .before .before .before .before in
-    let l = c .before .before .before .before .before .loop in
-    record { fits = omega (arith, tally-fits (s .pre .0) (s .pre .1) (l .inv .3) (l .inv .0) (omega (arith, c .before .before .before .before .loop-test .taken, l .inv .2)) (c .before .before .owner-at .result) (c .before .before .owner-at .ensures)) }
+    let c2 = c .before .before in
+    let c4 = c2 .before .before in
+    let c5 = c4 .before in
+    let s = c5 .before .before .before .before .before .before in
+    let l = c5 .loop in
+    let f = tally-fits (s .pre .0) (s .pre .1) (l .inv .3) (l .inv .0) (omega (arith, c4 .loop-test .taken, l .inv .2)) (c2 .owner-at .result) (c2 .owner-at .ensures) in
+    record { fits = omega arith }
 
 store-part-requires : tie.Need-store-part-requires Inv-loop μ-loop
-store-part-requires c κs = let h = within (c .before .before) in (omega arith, omega (arith, c .before .before .before .before .before .before .before .before .before .before .before .pre .0 .room, c .before .before .before .before .before .loop .inv .3 .kept .same-length), omega arith)
+store-part-requires c κs =
+    let c2 = c .before .before in
+    let c5 = c2 .before .before .before in
+    let c11 = c5 .before .before .before .before .before .before in
+    let h = within c2 in (omega arith, omega (arith, c11 .pre .0 .room, c5 .loop .inv .3 .kept .same-length), omega arith)
 
 add-i : tie.Need-add-i Inv-loop μ-loop
 add-i c = search needs
@@ -76,10 +97,19 @@ loop-less c = search needs
 
 loop-again : tie.Need-loop-again Inv-loop μ-loop
 loop-again c =
-    let s = c .before .before .before .before .before .before .before .before .before .before .before .before .before .before in
-    let l = c .before .before .before .before .before .before .before .before .loop in
-    let b : l .i < at (offsetsAt (s .args .work .now) (s .args .l)) (s .args .v + 1) = omega (arith, c .before .before .before .before .before .before .before .loop-test .taken, l .inv .2) in
-    (omega (arith, l .inv .0), omega (arith, c .before .before .before .before .before .before .before .loop-test .taken), l .inv .2, tally-turn (s .pre .0) (s .pre .1) (l .inv .3) (l .inv .0) b (c .before .before .before .before .before .owner-at .result) (c .before .before .before .before .before .owner-at .ensures) _ (c .before .before .store-part .ensures))
+    let c2 = c .before .before in
+    let c5 = c2 .before .before .before in
+    let c7 = c5 .before .before in
+    let c8 = c7 .before in
+    let s = c8 .before .before .before .before .before .before in
+    let l = c8 .loop in
+    let b : l .i < at (offsetsAt (s .args .work .now) (s .args .l)) (s .args .v + 1) = omega (arith, c7 .loop-test .taken, l .inv .2) in (
+      omega (arith, l .inv .0),
+      omega (arith, c7 .loop-test .taken),
+      l .inv .2,
+      tally-turn (s .pre .0) (s .pre .1) (l .inv .3) (l .inv .0)
+          b (c5 .owner-at .result) (c5 .owner-at .ensures) _ (c2 .store-part .ensures),
+    )
 
 same-length : tie.Need-same-length Inv-loop μ-loop
 same-length c = search needs

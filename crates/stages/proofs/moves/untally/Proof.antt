@@ -1,3 +1,4 @@
+-- The invariant: a rank without a neighbor from entry i on has the tally 0. Assumes nothing.
 use Prim.Native.Nat.{_+_, _-_, _≤_, _<_}
 use mathlib.Core.Path.{_≡_}
 use native.Mathlib.Omega.{arith}
@@ -16,11 +17,15 @@ abbrev μ-loop : tie.MeasureT-loop
 μ-loop work₀ l tallies ranks v end i₀ work i = end - i
 
 -- the rank of a turn
-within : (c : tie.After-owner-at Inv-loop μ-loop) → c .owner-at .result < c .before .before .before .before .before .before .before .before .before .args .ranks
+within : (c : tie.After-owner-at Inv-loop μ-loop)
+    → c .owner-at .result < c .before .before .before .before .before .before .before .before .before .args .ranks
 within c =
-    let s = c .before .before .before .before .before .before .before .before .before in
-    let l = c .before .before .before .loop in
-    owner-in (s .pre .0) (s .pre .1) (l .inv .3 .kept) (l .i) (l .inv .0) (omega (arith, c .before .before .loop-test .taken, l .inv .2)) (c .owner-at .result) (c .owner-at .ensures)
+    let c2 = c .before .before in
+    let c3 = c2 .before in
+    let s = c3 .before .before .before .before .before .before in
+    let l = c3 .loop in
+    owner-in (s .pre .0) (s .pre .1) (l .inv .3 .kept) (l .i) (l .inv .0) (omega (arith, c2 .loop-test .taken, l .inv .2)) (c .owner-at .result)
+    (c .owner-at .ensures)
 
 add-row-start : tie.Need-add-row-start Inv-loop μ-loop
 add-row-start c = search needs
@@ -33,22 +38,27 @@ row-start-requires-2 c κs = let s = c .before .before .before .before in (whole
 
 loop-holds : tie.Need-loop-holds Inv-loop μ-loop
 loop-holds c =
-    let s = c .before .before .before .before .before in
+    let c2 = c .before .before in
+    let s = c2 .before .before .before in
     let e : c .row-start2 .result ≡ at (offsetsAt (s .args .work .now) (s .args .l)) (s .args .v) = c .row-start2 .ensures in
-    let f : c .before .before .row-start .result ≡ at (offsetsAt (s .args .work .now) (s .args .l)) (s .args .v + 1) = c .before .before .row-start .ensures in
+    let f : c2 .row-start .result ≡ at (offsetsAt (s .args .work .now) (s .args .l)) (s .args .v + 1) = c2 .row-start .ensures in
     (omega arith, omega (arith, rises (s .pre .0) (s .pre .1)), f, rw e (clear-start (s .pre .0) (s .pre .1) (s .pre .2)))
 
 owner-at-requires : tie.Need-owner-at-requires Inv-loop μ-loop
 owner-at-requires c κs =
-    let s = c .before .before .before .before .before .before .before .before in
-    let l = c .before .before .loop in
+    let c2 = c .before .before in
+    let s = c2 .before .before .before .before .before .before in
+    let l = c2 .loop in
     owner-asks (s .pre .0) (s .pre .1) (l .inv .3 .kept) (l .i) (l .inv .0) (omega (arith, c .before .loop-test .taken, l .inv .2))
 
 add-store-part : tie.Need-add-store-part Inv-loop μ-loop
 add-store-part c = search needs
 
 store-part-requires : tie.Need-store-part-requires Inv-loop μ-loop
-store-part-requires c κs = let h = within (c .before) in (omega arith, omega (arith, c .before .before .before .before .before .before .before .before .before .before .pre .0 .room, c .before .before .before .before .loop .inv .3 .kept .same-length), omega arith)
+store-part-requires c κs =
+    let c4 = c .before .before .before .before in
+    let c10 = c4 .before .before .before .before .before .before in
+    let h = within (c .before) in (omega arith, omega (arith, c10 .pre .0 .room, c4 .loop .inv .3 .kept .same-length), omega arith)
 
 add-i : tie.Need-add-i Inv-loop μ-loop
 add-i c = search needs
@@ -58,10 +68,19 @@ loop-less c = search needs
 
 loop-again : tie.Need-loop-again Inv-loop μ-loop
 loop-again c =
-    let s = c .before .before .before .before .before .before .before .before .before .before .before .before .before in
-    let l = c .before .before .before .before .before .before .before .loop in
-    let b : l .i < at (offsetsAt (s .args .work .now) (s .args .l)) (s .args .v + 1) = omega (arith, c .before .before .before .before .before .before .loop-test .taken, l .inv .2) in
-    (omega (arith, l .inv .0), omega (arith, c .before .before .before .before .before .before .loop-test .taken), l .inv .2, clear-turn (s .pre .0) (s .pre .1) (l .inv .3) (l .inv .0) b (c .before .before .before .before .owner-at .result) (c .before .before .before .before .owner-at .ensures) _ (c .before .before .store-part .ensures))
+    let c2 = c .before .before in
+    let c4 = c2 .before .before in
+    let c6 = c4 .before .before in
+    let c7 = c6 .before in
+    let s = c7 .before .before .before .before .before .before in
+    let l = c7 .loop in
+    let b : l .i < at (offsetsAt (s .args .work .now) (s .args .l)) (s .args .v + 1) = omega (arith, c6 .loop-test .taken, l .inv .2) in (
+      omega (arith, l .inv .0),
+      omega (arith, c6 .loop-test .taken),
+      l .inv .2,
+      clear-turn (s .pre .0) (s .pre .1) (l .inv .3) (l .inv .0)
+          b (c4 .owner-at .result) (c4 .owner-at .ensures) _ (c2 .store-part .ensures),
+    )
 
 same-length : tie.Need-same-length Inv-loop μ-loop
 same-length c = search needs

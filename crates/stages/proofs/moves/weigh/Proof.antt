@@ -1,3 +1,4 @@
+-- The invariant: with what is left from v on, the numbers are the loads. Assumes nothing.
 use Prim.Native.Nat.{_+_, _-_, _≤_, _<_}
 use mathlib.Core.Path.{_≡_, refl}
 use native.Mathlib.Omega.{arith}
@@ -16,39 +17,64 @@ abbrev μ-loop : tie.MeasureT-loop
 -- the rank of a turn
 within : (c : tie.After-owner-in Inv-loop μ-loop) → c .owner-in .result < c .before .before .before .before .before .args .ranks
 within c =
-    let l = c .before .before .before .loop in
-    rank-in (c .before .before .before .before .before .pre .0) (l .inv .2) (c .before .before .loop-test .taken) (c .owner-in .result) (c .owner-in .ensures)
+    let c2 = c .before .before in
+    let c3 = c2 .before in
+    let c5 = c3 .before .before in
+    let l = c3 .loop in
+    rank-in (c5 .pre .0) (l .inv .2) (c2 .loop-test .taken) (c .owner-in .result) (c .owner-in .ensures)
 
 loop-holds : tie.Need-loop-holds Inv-loop μ-loop
 loop-holds c = (omega arith, refl, weigh-start (c .before .pre .0) (c .before .pre .1))
 
 owner-in-requires : tie.Need-owner-in-requires Inv-loop μ-loop
-owner-in-requires c κs = let l = c .before .before .loop in (weigh-asks (c .before .before .before .before .pre .0) (l .inv .2 .kept), omega (arith, c .before .loop-test .taken))
+owner-in-requires c κs =
+    let c2 = c .before .before in
+    let c4 = c2 .before .before in
+    let l = c2 .loop in (weigh-asks (c4 .pre .0) (l .inv .2 .kept), omega (arith, c .before .loop-test .taken))
 
 add-x : tie.Need-add-x Inv-loop μ-loop
-add-x c = let h = within c in record { fits = omega (arith, c .before .before .before .before .before .pre .0 .room, c .before .before .before .before .before .good .0 .0) }
+add-x c =
+    let c5 = c .before .before .before .before .before in
+    let h = within c in record { fits = omega (arith, c5 .pre .0 .room, c5 .good .0 .0) }
 
 mul-x : tie.Need-mul-x Inv-loop μ-loop
 mul-x c =
-    let h : c .before .before .before .before .before .args .loads + c .owner-in .result < length (c .before .before .before .before .before .args .work .now) = (let k = within c in omega (arith, c .before .before .before .before .before .pre .0 .room)) in
+    let c5 = c .before .before .before .before .before in
+    let h : c5 .args .loads + c .owner-in .result < length (c5 .args .work .now) = (let k = within c in omega (arith, c5 .pre .0 .room)) in
     search needs
 
 slice-read-x : tie.Need-slice-read-x Inv-loop μ-loop
-slice-read-x c = let h = within (c .before) in omega (arith, c .before .before .before .before .before .before .pre .0 .room, c .before .before .before .before .loop .inv .2 .kept .same-length)
+slice-read-x c =
+    let c4 = c .before .before .before .before in
+    let c6 = c4 .before .before in
+    let h = within (c .before) in omega (arith, c6 .pre .0 .room, c4 .loop .inv .2 .kept .same-length)
 
 weight-in-requires : tie.Need-weight-in-requires Inv-loop μ-loop
-weight-in-requires c κs = let l = c .before .before .before .before .before .loop in (weigh-asks (c .before .before .before .before .before .before .before .pre .0) (l .inv .2 .kept), omega (arith, c .before .before .before .before .loop-test .taken))
+weight-in-requires c κs =
+    let c4 = c .before .before .before .before in
+    let c5 = c4 .before in
+    let c7 = c5 .before .before in
+    let l = c5 .loop in (weigh-asks (c7 .pre .0) (l .inv .2 .kept), omega (arith, c4 .loop-test .taken))
 
 add-x-2 : tie.Need-add-x-2 Inv-loop μ-loop
 add-x-2 c =
-    let l = c .before .before .before .before .before .before .loop in
-    record { fits = omega (arith, weigh-fits (c .before .before .before .before .before .before .before .before .pre .0) (l .inv .2) (c .before .before .before .before .before .loop-test .taken) (c .before .before .before .owner-in .result) (c .before .before .before .owner-in .ensures) (c .weight-in .result) (c .weight-in .ensures)) }
+    let c3 = c .before .before .before in
+    let c5 = c3 .before .before in
+    let c6 = c5 .before in
+    let c8 = c6 .before .before in
+    let l = c6 .loop in
+    let f = weigh-fits (c8 .pre .0) (l .inv .2) (c5 .loop-test .taken) (c3 .owner-in .result) (c3 .owner-in .ensures) (c .weight-in .result) (c .weight-in .ensures) in
+    record { fits = omega arith }
 
 add-store-part : tie.Need-add-store-part Inv-loop μ-loop
 add-store-part c = search needs
 
 store-part-requires : tie.Need-store-part-requires Inv-loop μ-loop
-store-part-requires c κs = let h = within (c .before .before .before .before) in (omega arith, omega (arith, c .before .before .before .before .before .before .before .before .before .pre .0 .room, c .before .before .before .before .before .before .before .loop .inv .2 .kept .same-length), omega arith)
+store-part-requires c κs =
+    let c4 = c .before .before .before .before in
+    let c7 = c4 .before .before .before in
+    let c9 = c7 .before .before in
+    let h = within c4 in (omega arith, omega (arith, c9 .pre .0 .room, c7 .loop .inv .2 .kept .same-length), omega arith)
 
 add-v : tie.Need-add-v Inv-loop μ-loop
 add-v c = search needs
@@ -58,8 +84,18 @@ loop-less c = omega (arith, c .before .before .before .before .before .before .b
 
 loop-again : tie.Need-loop-again Inv-loop μ-loop
 loop-again c =
-    let l = c .before .before .before .before .before .before .before .before .before .before .loop in
-    (omega (arith, c .before .before .before .before .before .before .before .before .before .loop-test .taken), l .inv .1, weigh-turn (c .before .before .before .before .before .before .before .before .before .before .before .before .pre .0) (l .inv .2) (c .before .before .before .before .before .before .before .before .before .loop-test .taken) (c .before .before .before .before .before .before .before .owner-in .result) (c .before .before .before .before .before .before .before .owner-in .ensures) (c .before .before .before .before .weight-in .result) (c .before .before .before .before .weight-in .ensures) _ (c .before .before .store-part .ensures))
+    let c2 = c .before .before in
+    let c4 = c2 .before .before in
+    let c7 = c4 .before .before .before in
+    let c9 = c7 .before .before in
+    let c10 = c9 .before in
+    let c12 = c10 .before .before in
+    let l = c10 .loop in (
+      omega (arith, c9 .loop-test .taken),
+      l .inv .1,
+      weigh-turn (c12 .pre .0) (l .inv .2) (c9 .loop-test .taken) (c7 .owner-in .result)
+          (c7 .owner-in .ensures) (c4 .weight-in .result) (c4 .weight-in .ensures) _ (c2 .store-part .ensures),
+    )
 
 same-length : tie.Need-same-length Inv-loop μ-loop
 same-length c = c .before .loop .inv .2 .kept .same-length

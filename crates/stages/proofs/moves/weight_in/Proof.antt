@@ -1,3 +1,4 @@
+-- A weight read by its place in the slice. Assumes nothing.
 use mathlib.Core.Path.{sym}
 use Rattle.stages.proofs.MovesSliceLaws.{weight-place}
 use borrow.Author.Needs.{needs}

@@ -1,0 +1,106 @@
+use mathlib.Core.Bool.{true, false}
+use mathlib.Core.Path.{refl, sym, _∙_}
+use Rattle.multilevel.specs.Causes.{Call, callOf, tooShort}
+use Rattle.multilevel.proofs.CauseLaws.{limited, options-bad, options-fine, lists-bad, lists-fine, counts-as, limits-as, room-as, early-is}
+use borrow.Author.Needs.{needs}
+use Rattle.multilevel.proofs.causes.early_cause.Statement.{statement}
+use Rattle.multilevel.proofs.causes.early_cause.Tie as tie
+
+-- what the function was handed
+abbrev call : tie.Start → Call
+call s = callOf (s .args .offsets .now) (s .args .neighbors .now) (s .args .ranks) (s .args .options) (s .args .owners-length) (s .args .work-length)
+
+validate-requires : tie.Need-validate-requires
+validate-requires c κs = search needs
+
+returns : tie.Need-returns
+returns c =
+    early-is (call (c .before .before .before .before)) true _ _ _ _
+    (options-bad (c .before .before .before .before .args .options) (c .before .validate .result) (c .before .validate .ensures) (c .if1 .taken))
+    refl
+    refl
+    refl
+    refl
+
+vertex-count-requires : tie.Need-vertex-count-requires
+vertex-count-requires c κs = search needs
+
+index-requires : tie.Need-index-requires
+index-requires c κs = search needs
+
+bad-counts-requires : tie.Need-bad-counts-requires
+bad-counts-requires c κs = search needs
+
+returns-2 : tie.Need-returns-2
+returns-2 c =
+    early-is (call (c .before .before .before .before .before .before .before .before)) false true _ _ _
+    (options-fine (c .before .before .before .before .before .before .before .before .args .options) (c .before .before .before .before .before .validate .result) (c .before .before .before .before .before .validate .ensures) (c .before .before .before .before .if1 .left))
+    (counts-as (c .before .before .before .vertex-count .ensures) (c .before .before .index .ensures) (c .before .bad-counts .ensures) (c .if2 .taken))
+    refl
+    refl
+    refl
+
+over-limits-requires : tie.Need-over-limits-requires
+over-limits-requires c κs = search needs
+
+returns-3 : tie.Need-returns-3
+returns-3 c =
+    early-is (call (c .before .before .before .before .before .before .before .before .before .before)) false false true _ _
+    (options-fine (c .before .before .before .before .before .before .before .before .before .before .args .options) (c .before .before .before .before .before .before .before .validate .result) (c .before .before .before .before .before .before .before .validate .ensures) (c .before .before .before .before .before .before .if1 .left))
+    (counts-as (c .before .before .before .before .before .vertex-count .ensures) (c .before .before .before .before .index .ensures) (c .before .before .before .bad-counts .ensures) (c .before .before .if2 .left))
+    (limits-as (c .before .before .before .before .before .vertex-count .ensures) (c .before .before .before .before .index .ensures) _ _ (c .before .over-limits .ensures) (c .if3 .taken))
+    refl
+    refl
+
+lists-cause-requires : tie.Need-lists-cause-requires
+lists-cause-requires c κs = search needs
+
+returns-4 : tie.Need-returns-4
+returns-4 c =
+    early-is (call (c .before .before .before .before .before .before .before .before .before .before .before .before)) false false false true _
+    (options-fine (c .before .before .before .before .before .before .before .before .before .before .before .before .args .options) (c .before .before .before .before .before .before .before .before .before .validate .result) (c .before .before .before .before .before .before .before .before .before .validate .ensures) (c .before .before .before .before .before .before .before .before .if1 .left))
+    (counts-as (c .before .before .before .before .before .before .before .vertex-count .ensures) (c .before .before .before .before .before .before .index .ensures) (c .before .before .before .before .before .bad-counts .ensures) (c .before .before .before .before .if2 .left))
+    (limits-as (c .before .before .before .before .before .before .before .vertex-count .ensures) (c .before .before .before .before .before .before .index .ensures) _ _ (c .before .before .before .over-limits .ensures) (c .before .before .if3 .left))
+    (lists-bad (c .before .lists-cause .result) (c .before .before .before .before .before .before .before .before .before .before .before .before .args .offsets .now) (c .before .before .before .before .before .before .before .before .before .before .before .before .args .neighbors .now) (c .before .lists-cause .ensures .cause) (c .if4 .taken))
+    refl
+
+too-short-requires : tie.Need-too-short-requires
+too-short-requires c κs = limited _ _ _ _ (sym (c .before .before .before .over-limits .ensures) ∙ c .before .before .if3 .left)
+
+returns-5 : tie.Need-returns-5
+unfolding tooShort
+returns-5 c =
+    early-is (call (c .before .before .before .before .before .before .before .before .before .before .before .before .before .before)) false false false false true
+    (options-fine (c .before .before .before .before .before .before .before .before .before .before .before .before .before .before .args .options) (c .before .before .before .before .before .before .before .before .before .before .before .validate .result) (c .before .before .before .before .before .before .before .before .before .before .before .validate .ensures) (c .before .before .before .before .before .before .before .before .before .before .if1 .left))
+    (counts-as (c .before .before .before .before .before .before .before .before .before .vertex-count .ensures) (c .before .before .before .before .before .before .before .before .index .ensures) (c .before .before .before .before .before .before .before .bad-counts .ensures) (c .before .before .before .before .before .before .if2 .left))
+    (limits-as (c .before .before .before .before .before .before .before .before .before .vertex-count .ensures) (c .before .before .before .before .before .before .before .before .index .ensures) _ _ (c .before .before .before .before .before .over-limits .ensures) (c .before .before .before .before .if3 .left))
+    (lists-fine (c .before .before .before .lists-cause .result) (c .before .before .before .before .before .before .before .before .before .before .before .before .before .before .args .offsets .now) (c .before .before .before .before .before .before .before .before .before .before .before .before .before .before .args .neighbors .now) (c .before .before .before .lists-cause .ensures .cause) (c .before .before .if4 .left))
+    (room-as (c .before .before .before .before .before .before .before .before .before .vertex-count .ensures) (c .before .before .before .before .before .before .before .before .index .ensures) _ _ _ _ (c .before .too-short .ensures) (c .if5 .taken))
+
+returns-6 : tie.Need-returns-6
+unfolding tooShort
+returns-6 c =
+    early-is (call (c .before .before .before .before .before .before .before .before .before .before .before .before .before .before)) false false false false false
+    (options-fine (c .before .before .before .before .before .before .before .before .before .before .before .before .before .before .args .options) (c .before .before .before .before .before .before .before .before .before .before .before .validate .result) (c .before .before .before .before .before .before .before .before .before .before .before .validate .ensures) (c .before .before .before .before .before .before .before .before .before .before .if1 .left))
+    (counts-as (c .before .before .before .before .before .before .before .before .before .vertex-count .ensures) (c .before .before .before .before .before .before .before .before .index .ensures) (c .before .before .before .before .before .before .before .bad-counts .ensures) (c .before .before .before .before .before .before .if2 .left))
+    (limits-as (c .before .before .before .before .before .before .before .before .before .vertex-count .ensures) (c .before .before .before .before .before .before .before .before .index .ensures) _ _ (c .before .before .before .before .before .over-limits .ensures) (c .before .before .before .before .if3 .left))
+    (lists-fine (c .before .before .before .lists-cause .result) (c .before .before .before .before .before .before .before .before .before .before .before .before .before .before .args .offsets .now) (c .before .before .before .before .before .before .before .before .before .before .before .before .before .before .args .neighbors .now) (c .before .before .before .lists-cause .ensures .cause) (c .before .before .if4 .left))
+    (room-as (c .before .before .before .before .before .before .before .before .before .vertex-count .ensures) (c .before .before .before .before .before .before .before .before .index .ensures) _ _ _ _ (c .before .too-short .ensures) (c .if5 .left))
+
+pub early-cause-spec : {M : Type 1} → statement M
+early-cause-spec =
+    tie.close
+    (tie.spec
+    validate-requires
+    returns
+    vertex-count-requires
+    index-requires
+    bad-counts-requires
+    returns-2
+    over-limits-requires
+    returns-3
+    lists-cause-requires
+    returns-4
+    too-short-requires
+    returns-5
+    returns-6)

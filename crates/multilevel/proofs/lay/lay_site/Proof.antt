@@ -1,0 +1,45 @@
+use Rattle.multilevel.proofs.LayLaws.{site-laid}
+use borrow.Author.Needs.{needs}
+use Rattle.multilevel.proofs.lay.lay_site.Statement.{statement}
+use Rattle.multilevel.proofs.lay.lay_site.Tie as tie
+
+add-copy-part : tie.Need-add-copy-part
+add-copy-part c = search needs
+
+add-copy-part-2 : tie.Need-add-copy-part-2
+add-copy-part-2 c = search needs
+
+copy-part-requires : tie.Need-copy-part-requires
+copy-part-requires c κs = search needs
+
+add-copy-part-3 : tie.Need-add-copy-part-3
+add-copy-part-3 c = search needs
+
+copy-part-requires-2 : tie.Need-copy-part-requires-2
+copy-part-requires-2 c κs = search needs
+
+add-fill-part : tie.Need-add-fill-part
+add-fill-part c = search needs
+
+fill-part-requires : tie.Need-fill-part-requires
+fill-part-requires c κs = search needs
+
+same-length : tie.Need-same-length
+same-length c = search needs
+
+returns : tie.Need-returns
+returns c = site-laid (c .before .before .before .before .before .before .before .before .before .before .before .before .before .before .before .before .before .before .before .args .work .now) (c .before .before .before .before .before .before .before .before .before .before .before .before .copy-part .last .0) (c .before .before .before .before .before .before .before .copy-part2 .last .0) (c .before .before .fill-part .last .0) (c .before .before .before .before .before .before .before .before .before .before .before .before .before .before .before .before .before .before .before .args .l) (c .before .before .before .before .before .before .before .before .before .before .before .before .before .before .before .before .before .before .before .args .offsets .now) (c .before .before .before .before .before .before .before .before .before .before .before .before .before .before .before .before .before .before .before .args .neighbors .now) (c .before .before .before .before .before .before .before .before .before .before .before .before .before .before .before .before .before .before .before .pre) (c .before .before .before .before .before .before .before .before .before .before .before .before .copy-part .ensures) (c .before .before .before .before .before .before .before .copy-part2 .ensures) (c .before .before .fill-part .ensures)
+
+pub lay-site-spec : {M : Type 1} → statement M
+lay-site-spec =
+    tie.close
+    (tie.spec
+    add-copy-part
+    add-copy-part-2
+    copy-part-requires
+    add-copy-part-3
+    copy-part-requires-2
+    add-fill-part
+    fill-part-requires
+    same-length
+    returns)

@@ -1,0 +1,39 @@
+use native.Mathlib.Omega.{arith}
+use Rattle.multilevel.proofs.RoomLaws.{ready-wide}
+use Rattle.multilevel.proofs.MeasureLaws.{measurable-kept, cleared, measured}
+use borrow.Author.Needs.{needs}
+use Rattle.multilevel.proofs.measure.measure_level.Statement.{statement}
+use Rattle.multilevel.proofs.measure.measure_level.Tie as tie
+
+cut-in-requires : tie.Need-cut-in-requires
+cut-in-requires c κs = ready-wide _ _ _ _ (c .before .before .pre .ready .inside) (omega arith) (c .before .before .pre .ready)
+
+add-fill-part : tie.Need-add-fill-part
+add-fill-part c = search needs
+
+fill-part-requires : tie.Need-fill-part-requires
+fill-part-requires c κs = search needs
+
+volume-in-requires : tie.Need-volume-in-requires
+volume-in-requires c κs =
+    let z = cleared (c .before .before .before .before .before .before .before .before .args .work .now) (c .before .before .before .fill-part .last .0) (c .before .before .before .before .before .before .before .before .args .scratch) (c .before .before .before .before .before .before .before .before .args .ranks) (c .before .before .before .before .before .before .before .before .pre .inside) (c .before .before .before .fill-part .ensures) in
+    (measurable-kept _ _ _ _ _ (z .0) (c .before .before .before .before .before .before .before .before .pre), z .1)
+
+same-length : tie.Need-same-length
+same-length c = search needs
+
+returns : tie.Need-returns
+returns c =
+    let z = cleared (c .before .before .before .before .before .before .before .before .before .before .before .args .work .now) (c .before .before .before .before .before .before .fill-part .last .0) (c .before .before .before .before .before .before .before .before .before .before .before .args .scratch) (c .before .before .before .before .before .before .before .before .before .before .before .args .ranks) (c .before .before .before .before .before .before .before .before .before .before .before .pre .inside) (c .before .before .before .before .before .before .fill-part .ensures) in
+    measured _ _ _ _ _ _ _ (c .before .before .before .before .before .before .before .before .before .before .before .pre) (z .0) (c .before .before .before .before .before .before .before .before .cut-in .ensures) (c .before .before .volume-in .ensures)
+
+pub measure-level-spec : {M : Type 1} → statement M
+measure-level-spec =
+    tie.close
+    (tie.spec
+    cut-in-requires
+    add-fill-part
+    fill-part-requires
+    volume-in-requires
+    same-length
+    returns)

@@ -1,0 +1,155 @@
+-- Rule 9: the link file. One definition of the format serves the check and the reader. Assumes nothing.
+use Prim.Native.Nat.{ℕ, _+_, _-_, _*_, _≤_, _<_}
+use mathlib.Core.Path.{_≡_}
+use mathlib.Core.Bool.{Bool, not, _&&_, _||_, cond}
+use mathlib.Core.List.{List, [], _∷_, _++_, map}
+use lib.ListN.{length, drop}
+use lib.Seq.{sets}
+use lib.Dec.{ltb, eqb}
+use Rattle.links.specs.Lists.{at, filter, any, all, range, concatMap, above}
+use Rattle.links.specs.Graph.{rowsOf, offsetsFrom, packed, SoundLists}
+use Rattle.multilevel.specs.declared.file.Sizes.{Sizes}
+use Rattle.multilevel.specs.declared.file.Read.{Read}
+use Rattle.multilevel.specs.declared.file.Read.the-variants.{Site, Refused}
+
+-- "u32 little-endian": the file's number at place i
+unfoldable pub number : List ℕ → ℕ → ℕ
+number b i = at b (4 * i) + 256 * at b (4 * i + 1) + 65536 * at b (4 * i + 2) + 16777216 * at b (4 * i + 3)
+
+-- "n, e, k, max_levels, coarse_vertices_per_rank, t, refinement_passes"
+unfoldable pub sizesOf : List ℕ → Sizes
+sizesOf b =
+    record {
+      vertices = number b 0;
+      links = number b 1;
+      ranks = number b 2;
+      options =
+          record {
+            «max_levels» = number b 3;
+            «coarse_vertices_per_rank» = number b 4;
+            «imbalance_per_mille» = number b 5;
+            «refinement_passes» = number b 6;
+          };
+    }
+
+abbrev pub vertexCountOf : List ℕ → ℕ
+vertexCountOf b = number b 0
+
+abbrev pub linkCountOf : List ℕ → ℕ
+linkCountOf b = number b 1
+
+-- "then e low ends; then e high ends"
+unfoldable pub lowEnd : List ℕ → ℕ → ℕ
+lowEnd b i = number b (7 + i)
+
+unfoldable pub highEnd : List ℕ → ℕ → ℕ
+highEnd b i = number b (7 + linkCountOf b + i)
+
+-- "the program allows n ≤ 64, e ≤ 128, k ≤ 8, max_levels ≤ 12"
+unfoldable pub overProgramLimits : List ℕ → Bool
+overProgramLimits b = ltb 64 (number b 0) || ltb 128 (number b 1) || ltb 8 (number b 2) || ltb 12 (number b 3)
+
+-- link i before link j "by (low, high)"
+unfoldable pub linkBefore : List ℕ → ℕ → ℕ → Bool
+linkBefore b i j = above (lowEnd b j) (lowEnd b i) (ltb (highEnd b i) (highEnd b j))
+
+-- "low < high < n; links strictly rising by (low, high)"
+unfoldable pub goodLink : List ℕ → ℕ → Bool
+goodLink b i = ltb (lowEnd b i) (highEnd b i) && ltb (highEnd b i) (vertexCountOf b) && (eqb i 0 || linkBefore b (i - 1) i)
+
+unfoldable pub goodLinks : List ℕ → Bool
+goodLinks b = all (goodLink b) (range 0 (linkCountOf b))
+
+-- "under 28 bytes 10; program limits 3; length not 28 + 8e, or a wrong link, 10"
+unfoldable pub fileCause : List ℕ → ℕ
+fileCause b =
+    cond (ltb (length b) 28) 10
+    (cond (overProgramLimits b) 3 (cond (eqb (length b) (28 + 8 * linkCountOf b) && goodLinks b) 0 10))
+
+-- "the reader then 5 (n + 1 offsets, 2e neighbours)"
+unfoldable pub readerCause : List ℕ → ℕ → ℕ → ℕ
+readerCause b offsetsLength neighborsLength =
+    cond (eqb (fileCause b) 0)
+    (cond (ltb offsetsLength (vertexCountOf b + 1) || ltb neighborsLength (2 * linkCountOf b)) 5 0)
+    (fileCause b)
+
+-- ---- the lists of an accepted file
+
+-- some link has the ends u and v
+unfoldable pub linkedIn : List ℕ → ℕ → ℕ → Bool
+linkedIn b v u =
+    any (λ i. (eqb (lowEnd b i) v && eqb (highEnd b i) u) || (eqb (lowEnd b i) u && eqb (highEnd b i) v)) (range 0 (linkCountOf b))
+
+-- "the rising neighbour lists"
+unfoldable pub fileRow : List ℕ → ℕ → List ℕ
+fileRow b v = filter (linkedIn b v) (range 0 (vertexCountOf b))
+
+unfoldable pub fileRows : List ℕ → List (List ℕ)
+fileRows b = map (fileRow b) (range 0 (vertexCountOf b))
+
+abbrev pub fileOffsets : List ℕ → List ℕ
+fileOffsets b = offsetsFrom 0 (fileRows b)
+
+abbrev pub fileNeighbors : List ℕ → List ℕ
+fileNeighbors b = packed (fileRows b)
+
+-- ---- what the reader tells and writes
+
+-- "the file malformed: zero sizes"
+abbrev pub zeroSizes : Sizes
+zeroSizes =
+    record {
+      vertices = 0;
+      links = 0;
+      ranks = 0;
+      options = record { «max_levels» = 0; «coarse_vertices_per_rank» = 0; «imbalance_per_mille» = 0; «refinement_passes» = 0 };
+    }
+
+-- document 01's number and sizes of each answer
+abbrev pub readNumber : Read → ℕ
+readNumber (Site s) = 0
+readNumber (Refused number) = number
+
+abbrev pub readSizes : Read → Sizes
+readSizes (Site s) = s
+readSizes (Refused number) = zeroSizes
+
+-- "the reader returns sizes and options, and writes the offsets and the rising neighbour lists, nothing beyond"; "a refusal leaves every output as
+-- it was"
+pub record FileRead (b offsets neighbors offsets′ neighbors′ : List ℕ) (r : Read) : Type 0 where
+  pub answer
+      : r
+      ≡ cond (eqb (readerCause b (length offsets) (length neighbors)) 0)
+      (Site (sizesOf b))
+      (Refused (readerCause b (length offsets) (length neighbors)))
+  pub refused
+      : (readerCause b (length offsets) (length neighbors) ≡ 0 → ⊥) → (offsets′ ≡ offsets) × (neighbors′ ≡ neighbors)
+  pub offsets-written
+      : readerCause b (length offsets) (length neighbors) ≡ 0 → offsets′ ≡ fileOffsets b ++ drop (vertexCountOf b + 1) offsets
+  pub neighbors-written
+      : readerCause b (length offsets) (length neighbors) ≡ 0 → neighbors′ ≡ fileNeighbors b ++ drop (2 * linkCountOf b) neighbors
+  -- what it writes passes the list test, and is the file's rows
+  pub sound : fileCause b ≡ 0 → SoundLists (fileOffsets b) (fileNeighbors b) × (rowsOf (fileOffsets b) (fileNeighbors b) ≡ fileRows b)
+
+-- a file that has as many bytes as its links ask for
+pub record Sized (b : List ℕ) (e : ℕ) : Type 0 where
+  pub links : e ≡ linkCountOf b
+  pub few : e ≤ 128
+  pub bytes : length b ≡ 28 + 8 * e
+
+-- ---- a row as the reader makes it: link by link, v's other end
+
+unfoldable pub otherEnd : List ℕ → ℕ → ℕ → List ℕ
+otherEnd b v i = cond (eqb (lowEnd b i) v) (highEnd b i ∷ []) (cond (eqb (highEnd b i) v) (lowEnd b i ∷ []) [])
+
+unfoldable pub rowUpTo : List ℕ → ℕ → ℕ → List ℕ
+rowUpTo b v i = concatMap (otherEnd b v) (range 0 i)
+
+-- what a slice holds once a list was written from `from` on, and where that list ended
+pub record Written (xs : List ℕ) (from : ℕ) (neighbors neighbors′ : List ℕ) (end : ℕ) : Type 0 where
+  pub end-is : end ≡ from + length xs
+  pub is : neighbors′ ≡ sets neighbors from xs
+
+pub record RowsWritten (b offsets neighbors offsets′ neighbors′ : List ℕ) : Type 0 where
+  pub offsets-are : offsets′ ≡ fileOffsets b ++ drop (vertexCountOf b + 1) offsets
+  pub neighbors-are : neighbors′ ≡ fileNeighbors b ++ drop (2 * linkCountOf b) neighbors

@@ -1,0 +1,96 @@
+// The causes that a division tests before its work: 1 to 5 of the table.
+ghost use mathlib.Core.Path.{_≡_};
+ghost use mathlib.Core.Bool.{_||_};
+ghost use lib.Dec.{ltb};
+ghost use Rattle.multilevel.specs.Causes.{callOf, badCounts, overLimits, workNeed, Limited, earlyCause};
+use links::AbtmMultilevelOptions;
+use links::index;
+use links::lists_cause;
+use links::vertex_count;
+
+fn bad_counts(n: usize, ranks: usize) -> bool
+    ensures { λ r. ⌜ r ≡ badCounts n ranks ⌝ }
+{
+    if n == 0 {
+        return true;
+    }
+    if ranks == 0 {
+        return true;
+    }
+    n < ranks
+}
+
+fn over_limits(n: usize, m: usize, ranks: usize, levels: u64) -> bool
+    ensures { λ r. ⌜ r ≡ overLimits n m ranks levels ⌝ }
+{
+    if n > 16384 {
+        return true;
+    }
+    if m > 131072 {
+        return true;
+    }
+    if ranks > 256 {
+        return true;
+    }
+    levels > 32
+}
+
+// How many numbers a division's work takes.
+// Rules out: a product that wraps to a small number.
+pub fn work_need(n: usize, m: usize, ranks: usize, levels: usize) -> usize
+    requires { ⌜ Limited n m ranks levels ⌝ }
+    ensures { λ r. ⌜ r ≡ workNeed n m ranks levels ⌝ }
+{
+    (levels + 6) * (4 * n + 2 * m + 2) + 24 * ranks * ranks
+}
+
+fn too_short(
+    n: usize,
+    m: usize,
+    ranks: usize,
+    levels: usize,
+    owners_length: usize,
+    work_length: usize,
+) -> bool
+    requires { ⌜ Limited n m ranks levels ⌝ }
+    ensures { λ r. ⌜ r ≡ (ltb «owners_length» n || ltb «work_length» (workNeed n m ranks levels)) ⌝ }
+{
+    if owners_length < n {
+        return true;
+    }
+    work_length < work_need(n, m, ranks, levels)
+}
+
+// 0, or the first of the causes 1 to 5 that holds.
+// Rules out: another order than the table's; work counted before the limits were tested.
+pub fn early_cause(
+    offsets: &[u32],
+    neighbors: &[u32],
+    ranks: u32,
+    options: AbtmMultilevelOptions,
+    owners_length: usize,
+    work_length: usize,
+) -> u32
+    ensures { λ r. ⌜ r ≡ earlyCause (callOf (now (offsets .entry)) (now (neighbors .entry)) ranks options «owners_length» «work_length») ⌝ }
+{
+    if options.validate() != 0 {
+        return 1;
+    }
+    let n = vertex_count(offsets);
+    let m = neighbors.len();
+    let k = index(ranks);
+    let levels = options.max_levels;
+    if bad_counts(n, k) {
+        return 2;
+    }
+    if over_limits(n, m, k, levels) {
+        return 3;
+    }
+    if lists_cause(offsets, neighbors) != 0 {
+        return 4;
+    }
+    if too_short(n, m, k, levels as usize, owners_length, work_length) {
+        return 5;
+    }
+    0
+}

@@ -1,0 +1,225 @@
+// Rule 9: the link file, its check and its reader.
+ghost use mathlib.Core.Path.{_≡_};
+ghost use mathlib.Core.Bool.{Bool, true, false, _||_};
+ghost use lib.Dec.{eqb};
+ghost use Prim.Native.Nat.{ℕ, _+_, _-_, _*_, _≤_, _<_};
+ghost use lib.ListN.{length};
+ghost use Rattle.links.specs.Lists.{at};
+ghost use Rattle.multilevel.specs.File.{number, sizesOf, vertexCountOf, linkCountOf, lowEnd, highEnd, overProgramLimits, linkBefore, goodLink, goodLinks, fileCause, readerCause, fileRow, otherEnd, FileRead, Sized, Written, RowsWritten};
+use links::AbtmMultilevelOptions;
+use links::index;
+use links::wide;
+
+// What a file says of its site: sizes and options.
+pub struct Sizes {
+    pub vertices: u32,
+    pub links: u32,
+    pub ranks: u32,
+    pub options: AbtmMultilevelOptions,
+}
+
+pub enum Read {
+    Site(Sizes),
+    Refused(u32),
+}
+
+fn byte(b: &[u8], i: usize) -> u32
+    requires { ⌜ i < length (now b) ⌝ }
+    ensures { λ r. ⌜ (r ≡ at (now (b .entry)) i) × (r < 256) ⌝ }
+{
+    b[i] as u32
+}
+
+// The file's number at place i.
+fn number_at(b: &[u8], i: usize) -> u32
+    requires { ⌜ 4 * i + 4 ≤ length (now b) ⌝ }
+    ensures { λ r. ⌜ r ≡ number (now (b .entry)) i ⌝ }
+{
+    let a = 4 * i;
+    byte(b, a) + 256 * byte(b, a + 1) + 65536 * byte(b, a + 2) + 16777216 * byte(b, a + 3)
+}
+
+fn sizes_of(b: &[u8]) -> Sizes
+    requires { ⌜ 28 ≤ length (now b) ⌝ }
+    ensures { λ r. ⌜ r ≡ sizesOf (now (b .entry)) ⌝ }
+{
+    let options = AbtmMultilevelOptions {
+        max_levels: wide(number_at(b, 3)),
+        coarse_vertices_per_rank: wide(number_at(b, 4)),
+        imbalance_per_mille: wide(number_at(b, 5)),
+        refinement_passes: wide(number_at(b, 6)),
+    };
+    Sizes {
+        vertices: number_at(b, 0),
+        links: number_at(b, 1),
+        ranks: number_at(b, 2),
+        options,
+    }
+}
+
+fn over_limits(b: &[u8]) -> bool
+    requires { ⌜ 28 ≤ length (now b) ⌝ }
+    ensures { λ r. ⌜ r ≡ overProgramLimits (now (b .entry)) ⌝ }
+{
+    if number_at(b, 0) > 64 {
+        return true;
+    }
+    if number_at(b, 1) > 128 {
+        return true;
+    }
+    if number_at(b, 2) > 8 {
+        return true;
+    }
+    number_at(b, 3) > 12
+}
+
+fn low_end(b: &[u8], e: usize, i: usize) -> u32
+    requires { ⌜ Sized (now b) e × (i < e) ⌝ }
+    ensures { λ r. ⌜ r ≡ lowEnd (now (b .entry)) i ⌝ }
+{
+    number_at(b, 7 + i)
+}
+
+fn high_end(b: &[u8], e: usize, i: usize) -> u32
+    requires { ⌜ Sized (now b) e × (i < e) ⌝ }
+    ensures { λ r. ⌜ r ≡ highEnd (now (b .entry)) i ⌝ }
+{
+    number_at(b, 7 + e + i)
+}
+
+// Whether link i comes before link j.
+fn comes_before(b: &[u8], e: usize, i: usize, j: usize) -> bool
+    requires { ⌜ Sized (now b) e × (i < e) × (j < e) ⌝ }
+    ensures { λ r. ⌜ r ≡ linkBefore (now (b .entry)) i j ⌝ }
+{
+    let x = low_end(b, e, i);
+    let y = low_end(b, e, j);
+    if x < y {
+        return true;
+    }
+    if y == x {
+        return high_end(b, e, i) < high_end(b, e, j);
+    }
+    false
+}
+
+fn link_good(b: &[u8], e: usize, i: usize, vertices: u32) -> bool
+    requires { ⌜ Sized (now b) e × (i < e) × (vertices ≡ vertexCountOf (now b)) ⌝ }
+    ensures { λ r. ⌜ r ≡ goodLink (now (b .entry)) i ⌝ }
+{
+    let low = low_end(b, e, i);
+    let high = high_end(b, e, i);
+    if high <= low {
+        return false;
+    }
+    if vertices <= high {
+        return false;
+    }
+    if i == 0 {
+        return true;
+    }
+    comes_before(b, e, i - 1, i)
+}
+
+fn links_good(b: &[u8], e: usize, vertices: u32) -> bool
+    requires { ⌜ Sized (now b) e × (vertices ≡ vertexCountOf (now b)) ⌝ }
+    ensures { λ r. ⌜ r ≡ goodLinks (now (b .entry)) ⌝ }
+{
+    let mut i: usize = 0;
+    while i < e {
+        if link_good(b, e, i, vertices) {
+            i += 1;
+        } else {
+            return false;
+        }
+    }
+    true
+}
+
+// The file check: 0, or 10, or 3.
+// Rules out: a file with one byte more; links in rising order of their low ends alone.
+pub fn link_file_cause(b: &[u8]) -> u32
+    ensures { λ r. ⌜ r ≡ fileCause (now (b .entry)) ⌝ }
+{
+    if b.len() < 28 {
+        return 10;
+    }
+    if over_limits(b) {
+        return 3;
+    }
+    let e = index(number_at(b, 1));
+    if b.len() != 28 + 8 * e {
+        return 10;
+    }
+    if links_good(b, e, number_at(b, 0)) {
+        return 0;
+    }
+    10
+}
+
+// v's other end at link i, if v is an end of it, goes to `at`: the next place.
+fn write_end(b: &[u8], e: usize, i: usize, v: u32, neighbors: &mut [u32], at: usize) -> usize
+    requires { ⌜ Sized (now b) e × (i < e) × (at + length (otherEnd (now b) v i) ≤ length (now neighbors)) ⌝ }
+    ensures { λ r. ⌜ Written (otherEnd (now (b .entry)) v i) at (now (neighbors .entry)) (now (neighbors .exit)) r ⌝ }
+{
+    let low = low_end(b, e, i);
+    let high = high_end(b, e, i);
+    if low == v {
+        neighbors[at] = high;
+        return at + 1;
+    }
+    if high == v {
+        neighbors[at] = low;
+        return at + 1;
+    }
+    at
+}
+
+// v's row, link by link: those of lower number come first, then those of higher number, both rising.
+fn write_row(b: &[u8], e: usize, v: u32, neighbors: &mut [u32], from: usize) -> usize
+    requires { ⌜ Sized (now b) e × (goodLinks (now b) ≡ true) × (from + length (fileRow (now b) v) ≤ length (now neighbors)) ⌝ }
+    ensures { λ r. ⌜ Written (fileRow (now (b .entry)) v) from (now (neighbors .entry)) (now (neighbors .exit)) r ⌝ }
+{
+    let mut at = from;
+    let mut i: usize = 0;
+    while i < e {
+        at = write_end(b, e, i, v, neighbors, at);
+        i += 1;
+    }
+    at
+}
+
+fn write_rows(b: &[u8], e: usize, n: usize, offsets: &mut [u32], neighbors: &mut [u32])
+    requires { ⌜ Sized (now b) e × (goodLinks (now b) ≡ true) × (n ≡ vertexCountOf (now b)) × (n ≤ 64) × (n + 1 ≤ length (now offsets)) × (2 * e ≤ length (now neighbors)) ⌝ }
+    ensures { λ _. ⌜ RowsWritten (now (b .entry)) (now (offsets .entry)) (now (neighbors .entry)) (now (offsets .exit)) (now (neighbors .exit)) ⌝ }
+{
+    let mut at: usize = 0;
+    let mut v: usize = 0;
+    offsets[0] = 0;
+    while v < n {
+        at = write_row(b, e, v as u32, neighbors, at);
+        v += 1;
+        offsets[v] = at as u32;
+    }
+}
+
+// The reader: the sizes and options, and n + 1 offsets and 2e neighbors written; or 10, 3 or 5 and nothing written.
+// Rules out: each link written from one end only; an output changed by a refusal.
+pub fn read_link_file(b: &[u8], offsets: &mut [u32], neighbors: &mut [u32]) -> Read
+    ensures { λ r. ⌜ FileRead (now (b .entry)) (now (offsets .entry)) (now (neighbors .entry)) (now (offsets .exit)) (now (neighbors .exit)) r ⌝ }
+{
+    let cause = link_file_cause(b);
+    if cause != 0 {
+        return Read::Refused(cause);
+    }
+    let n = index(number_at(b, 0));
+    let e = index(number_at(b, 1));
+    if offsets.len() < n + 1 {
+        return Read::Refused(5);
+    }
+    if neighbors.len() < 2 * e {
+        return Read::Refused(5);
+    }
+    write_rows(b, e, n, offsets, neighbors);
+    Read::Site(sizes_of(b))
+}

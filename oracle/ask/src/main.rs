@@ -1,0 +1,89 @@
+//! Asks the Rust for one division.
+//!
+//!     ask [--trace] < site
+//!
+//! The site is text, in lines (a ; ends a line too; what follows a # is left out):
+//!     n k L per t passes       vertices, ranks, max_levels, coarse_vertices_per_rank, imbalance_per_mille, refinement_passes
+//!     a b                      a link, once, in either order; as many lines as there are links
+//!
+//! It prints `refused NUMBER`, or
+//!     owners 0 0 1 1
+//!     stats 0 4 0 0 0 0 2 2    levels, coarsest, pairs, singletons, restarts, moves (with swaps), cut, volume
+//! With --trace it prints before that what each stage of the Rust made of the site (the same stages, called one by one).
+//!
+//! From oracle/: HIPSTERN_RUST_SRC=.. cargo run -q --release -p ask -- --trace < site
+use reference::answers::{Options, partition};
+use reference::sites::Site;
+use reference::trace::{Trace, trace};
+use std::io::Read;
+
+fn main() {
+    let traced = match std::env::args().skip(1).collect::<Vec<_>>().as_slice() {
+        [] => false,
+        [word] if word == "--trace" => true,
+        _ => stop("usage: ask [--trace] < site"),
+    };
+    let mut text = String::new();
+    std::io::stdin().read_to_string(&mut text).unwrap_or_else(|e| stop(&e.to_string()));
+    let lines = text.lines().flat_map(|line| line.split('#').next().unwrap_or("").split(';'));
+    let lines: Vec<_> = lines.map(numbers).filter(|line| !line.is_empty()).collect();
+    let Some((first, rest)) = lines.split_first() else { stop("no line") };
+    let &[n, k, max_levels, coarse_vertices_per_rank, imbalance_per_mille, refinement_passes] = first.as_slice() else {
+        stop("the first line is n k L per t passes")
+    };
+    let links = rest.iter().map(|line| match line.as_slice() {
+        &[a, b] if a < n && b < n => (a as usize, b as usize),
+        _ => stop(&format!("no link between two vertices below {n}: {line:?}")),
+    });
+    let site = Site::new(n as usize, &links.collect::<Vec<_>>());
+    let options = Options { max_levels, coarse_vertices_per_rank, imbalance_per_mille, refinement_passes };
+    let ranks = u32::try_from(k).unwrap_or_else(|_| stop("k is above 2^32 - 1"));
+    let answer = partition(&site.offsets, &site.neighbors, ranks, options);
+    if traced && !matches!(answer, Err(1..=5)) {
+        print_stages(&trace(&site.rows(), ranks, options));
+    }
+    match answer {
+        Err(number) => println!("refused {number}"),
+        Ok((owners, stats)) => {
+            println!("owners {}", words(&owners));
+            println!("stats {}", words(&stats));
+        }
+    }
+}
+
+fn numbers(line: &str) -> Vec<u64> {
+    line.split_whitespace().map(|w| w.parse().unwrap_or_else(|_| stop(&format!("no number: {w}")))).collect()
+}
+
+fn words<T: ToString>(list: &[T]) -> String {
+    list.iter().map(T::to_string).collect::<Vec<_>>().join(" ")
+}
+
+fn stop(why: &str) -> ! {
+    eprintln!("ask: {why}");
+    std::process::exit(2)
+}
+
+fn print_stages(trace: &Trace) {
+    println!("cap {} floor {}", trace.cap, trace.floor);
+    for (step, word) in
+        trace.coarsened.iter().map(|s| (s, "coarsened")).chain(trace.discarded.iter().map(|s| (s, "discarded")))
+    {
+        println!("{word} into {} groups: {}", step.rows.len(), words(&step.fine_to_coarse));
+        println!("  weights {}", words(&step.weights));
+        for (v, row) in step.rows.iter().enumerate() {
+            println!("  row {v}: {}", words(row));
+        }
+    }
+    println!("seeds {}", words(&trace.seeds));
+    if let Ok(grown) = &trace.growth {
+        println!("growth {} restarts {}", words(&grown.owners), grown.restarts);
+    }
+    for m in &trace.moved {
+        println!("level {} start {}", m.level, words(&m.start));
+        println!("level {} moved {} moves {}", m.level, words(&m.end), m.count);
+    }
+    if let Some(m) = &trace.swapped {
+        println!("swapped {} swaps {}", words(&m.end), m.count);
+    }
+}

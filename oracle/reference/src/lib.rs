@@ -1,0 +1,57 @@
+//! The Rust that Hipstern follows, unchanged: the five files are included from where HIPSTERN_RUST_SRC says (build.rs), and
+//! nothing of them is in this repository. `stand_ins` has what they take from other files, `answers` what document 01 expects
+//! of a call (its own rule where 01 adds a refusal, else the Rust's answer), `stages` the Rust's private stages, and
+//! `trace` a division by them.
+
+// All the crates that the sources name are this one.
+extern crate self as hybit_core;
+extern crate self as hybit_matrix;
+extern crate self as rayon;
+
+pub mod answers;
+pub mod link_file;
+pub mod random;
+pub mod sites;
+mod stand_ins;
+pub mod trace;
+
+pub use csr32::Csr32Matrix;
+pub use dual_topology::AbtmDualTopology;
+pub use multilevel::{AbtmMultilevelOptions, AbtmMultilevelStats, abtm_multilevel_partition, stages};
+pub use partition::{PartitionAssignment, partition_telemetry_assignment};
+pub use stand_ins::*;
+pub use topology::{AbtmTopology, AbtmTopologyRow};
+
+#[allow(dead_code)]
+mod csr32 {
+    include!(concat!(env!("RUST_SRC"), "/crates/hybit-matrix/src/csr32.rs"));
+}
+
+#[allow(dead_code)]
+mod topology {
+    include!(concat!(env!("RUST_SRC"), "/crates/hybit-matrix/src/topology.rs"));
+}
+
+#[allow(dead_code)]
+mod dual_topology {
+    include!(concat!(env!("RUST_SRC"), "/crates/hybit-matrix/src/dual_topology.rs"));
+}
+
+#[allow(dead_code)]
+mod partition {
+    include!(concat!(env!("RUST_SRC"), "/crates/hybit-distributed/src/partition.rs"));
+
+    impl PartitionAssignment {
+        /// Any owner list, untested: 01's `owner_of` and `owned_count` take such a one.
+        pub fn untested(ranks: RankId, owners: Vec<RankId>) -> Self {
+            Self { ranks, owners }
+        }
+    }
+}
+
+#[allow(dead_code)]
+mod multilevel {
+    include!(concat!(env!("RUST_SRC"), "/crates/hybit-distributed/src/multilevel.rs"));
+
+    pub mod stages;
+}

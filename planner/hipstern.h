@@ -1,0 +1,64 @@
+/*
+ * Hipstern's calls for the season planner: the most and the least that a crew's load may be, and the check of a link file.
+ *
+ * `rt staticlib multilevel` writes the archive to link, target/staticlib/libmultilevel.a (Linux, x86-64). The calls keep
+ * nothing between them, allocate nothing and write nothing: any number of threads may make them at once.
+ * planner.c uses all three; planner/run.sh builds it.
+ */
+#ifndef HIPSTERN_H
+#define HIPSTERN_H
+
+#include <stddef.h>
+#include <stdint.h>
+
+/* The answer of the first two calls where there is none: no crews, or an imbalance above 500. No other input gives it. */
+#define HIPSTERN_NO_LOAD UINT64_MAX
+
+/*
+ * The cap: the most that one crew's load may be, floor(total * (1000 + imbalance_per_mille) / (1000 * ranks)).
+ *
+ *   total                the load of the whole site: its number of turbines while each weighs 1
+ *   ranks                the number of crews
+ *   imbalance_per_mille  how far a crew's load may be from an equal share, in thousandths of that share: 0 to 500
+ *
+ * The product saturates at 2^64 - 1. Answers HIPSTERN_NO_LOAD if ranks is 0 or imbalance_per_mille is above 500.
+ */
+uint64_t hipstern_load_cap(uint64_t total, uint32_t ranks, uint32_t imbalance_per_mille);
+
+/*
+ * The floor: the least that a move or a swap may leave a crew with,
+ * floor(total * (1000 - imbalance_per_mille) / (1000 * ranks)).
+ *
+ * The arguments, the saturation and HIPSTERN_NO_LOAD are those of the cap. A division may still end with a crew below the
+ * floor, which no move or swap brought there.
+ */
+uint64_t hipstern_minimum_load(uint64_t total, uint32_t ranks, uint32_t imbalance_per_mille);
+
+/*
+ * The check of a link file: HIPSTERN_OK, or the number of what is wrong with it.
+ *
+ *   file    the file's bytes, never NULL: for an empty file any other pointer will do
+ *   length  how many bytes there are
+ *
+ * samples/README.md has the format, and a file for each case. The tests come in this order, and the first that fails
+ * gives the answer:
+ *
+ *   HIPSTERN_MALFORMED   fewer than 28 bytes. Mend: write all seven numbers of the header.
+ *   HIPSTERN_OVER_LIMIT  more than 64 turbines, 128 links, 8 crews or 12 levels. Mend: divide the site into smaller ones,
+ *                        or ask for fewer crews or levels. If the numbers look right, they may have been written with
+ *                        their highest byte first: the lowest comes first.
+ *   HIPSTERN_MALFORMED   not 28 + 8 * links bytes. Mend: the second number is the number of links; after the header come
+ *                        as many low ends, then as many high ends, and nothing else.
+ *   HIPSTERN_MALFORMED   a wrong link. Mend: number the turbines from 0; give each link once, its lower end as the low
+ *                        one; sort the links by low end, then by high end.
+ *
+ * HIPSTERN_OK says that the file can be read. Its division may be refused all the same, for its options (1), its numbers
+ * of turbines and crews (2), or because no permitted shares were found (6 to 9).
+ */
+uint32_t hipstern_link_file_cause(const uint8_t *file, size_t length);
+
+#define HIPSTERN_OK 0u
+#define HIPSTERN_OVER_LIMIT 3u
+#define HIPSTERN_MALFORMED 10u
+
+#endif

@@ -1,0 +1,16 @@
+#!/usr/bin/env bash
+# The season planner over the library's archive: builds planner.c, runs it on samples/ and holds what it prints to
+# expected.txt. First, that samples/make.sh still writes the samples that are stored. The exit status is not 0 on a difference.
+set -euo pipefail
+cd "$(dirname "$0")/.."
+export LC_ALL=C
+
+made=target/planner/samples
+rm -rf "$made"
+samples/make.sh "$made"
+diff -r --exclude=README.md --exclude=make.sh --exclude=.gitattributes samples "$made"
+
+rt staticlib multilevel
+cc -std=c99 -Wall -Wextra -Werror -O2 -o target/planner/planner planner/planner.c target/staticlib/libmultilevel.a
+target/planner/planner samples/*.links | diff planner/expected.txt -
+echo "planner: $(wc -l <planner/expected.txt) lines as expected"

@@ -1,0 +1,93 @@
+#!/usr/bin/env bash
+# Writes every sample link file: samples/make.sh [FOLDER], by default into the folder of this script.
+set -eu
+folder=${1:-$(dirname "$0")}
+mkdir -p "$folder"
+
+# numbers NAME NUMBER..: a file of these numbers, each of four bytes, the lowest first
+numbers() {
+  local name=$1 text='' four x
+  shift
+  for x; do
+    printf -v four '\\x%02x' $((x & 255)) $((x >> 8 & 255)) $((x >> 16 & 255)) $((x >> 24 & 255))
+    text+=$four
+  done
+  printf '%b' "$text" >"$folder/$name.links"
+}
+
+# site NAME N K MAX_LEVELS PER_RANK IMBALANCE PASSES LINK..: a site's file; a link is LOW-HIGH
+site() {
+  local name=$1 n=$2 rest=("${@:3:5}")
+  shift 7
+  numbers "$name" "$n" $# "${rest[@]}" "${@%-*}" "${@#*-}"
+}
+
+# first NAME FROM BYTES: so many of another sample's bytes
+first() {
+  head -c "$3" "$folder/$2.links" >"$folder/$1.links"
+}
+
+path4=(0-1 1-2 2-3)
+star4=(0-1 0-2 0-3)
+pairs=(0-1 2-3 4-5)
+# a torus of 8 times 8: 64 vertices and 128 links, the most that a file may have
+torus=()
+for ((v = 0; v < 64; v++)); do
+  if ((v % 8 < 7)); then torus+=("$v-$((v + 1))"); fi
+  if ((v % 8 == 0)); then torus+=("$v-$((v + 7))"); fi
+  if ((v < 56)); then torus+=("$v-$((v + 8))"); fi
+  if ((v < 8)); then torus+=("$v-$((v + 56))"); fi
+done
+
+# document 01's sites by hand
+site path4 4 2 12 64 30 2 "${path4[@]}"
+site path4-coarse 4 2 12 1 30 2 "${path4[@]}"
+site path4-k3-t499 4 3 12 64 499 2 "${path4[@]}"
+site path4-k3-t500 4 3 12 64 500 2 "${path4[@]}"
+site path5-t199 5 2 12 64 199 2 "${path4[@]}" 3-4
+site path5-t200 5 2 12 64 200 2 "${path4[@]}" 3-4
+site star4-level1 4 2 1 1 30 2 "${star4[@]}"
+site star4-t499 4 2 12 1 499 2 "${star4[@]}"
+site star4-t500 4 2 12 1 500 2 "${star4[@]}"
+site pairs-t333 6 4 12 1 333 2 "${pairs[@]}"
+site pairs-t334 6 4 12 1 334 2 "${pairs[@]}"
+site lone4 4 2 12 1 30 2
+# every size at its limit
+site torus64 64 8 12 1 100 2 "${torus[@]}"
+
+# accepted by the check, and refused by a division for the options (1) or the counts (2)
+site option-levels0 4 2 0 64 30 2 "${path4[@]}"
+site option-per-rank0 4 2 12 0 30 2 "${path4[@]}"
+site option-passes0 4 2 12 64 30 0 "${path4[@]}"
+site option-t501 4 2 12 64 501 2 "${path4[@]}"
+site count-n0 0 1 12 64 30 2
+site count-k0 4 0 12 64 30 2 "${path4[@]}"
+site count-k5 4 5 12 64 30 2 "${path4[@]}"
+
+# one size above its limit (3)
+site over-n65 65 8 12 1 100 2 "${torus[@]}"
+site over-e129 64 8 12 1 100 2 0-1 0-2 "${torus[@]:1}"
+site over-k9 64 9 12 1 100 2 "${torus[@]}"
+site over-levels13 64 8 13 1 100 2 "${torus[@]}"
+# the limits come before the length, and before the links
+first over-k9-cut over-k9 100
+# path4 with each number's highest byte first
+numbers over-byte-order $((4 << 24)) $((3 << 24)) $((2 << 24)) $((12 << 24)) $((64 << 24)) $((30 << 24)) $((2 << 24)) \
+  0 $((1 << 24)) $((2 << 24)) $((1 << 24)) $((2 << 24)) $((3 << 24))
+
+# malformed (10): the length
+numbers bad-empty
+first bad-short path4 27
+first bad-header-only path4 28
+first bad-cut path4 51
+{
+  cat "$folder/path4.links"
+  printf '\0'
+} >"$folder/bad-long.links"
+# malformed (10): the links
+site bad-order-low 4 2 12 64 30 2 0-1 2-3 1-2
+site bad-order-high 4 2 12 64 30 2 0-2 0-1 0-3
+site bad-repeat 4 2 12 64 30 2 0-1 0-1 2-3
+site bad-low-above-high 4 2 12 64 30 2 0-1 2-1 2-3
+site bad-self 4 2 12 64 30 2 0-1 1-1 2-3
+site bad-end-n 4 2 12 64 30 2 0-1 1-2 2-4
