@@ -4,6 +4,6 @@ pub mod BestLaws
 pub mod SoundLaws
 pub mod RowLaws
 pub mod ListTestLaws
+pub mod OwnerLaws
 pub mod RangeLaws
 pub mod PackLaws
-pub mod OwnerLaws

@@ -1,8 +1,8 @@
 -- Rule 7's listing in the work slice: a vertex is offered to the list of each other rank among its neighbors' owners, once. Assumes nothing.
 use Prim.Native.Nat.{ℕ, zero, suc, _+_, _-_, _*_, _≤_, _<_}
-use mathlib.Core.Path.{_≡_, refl, sym, ap, _∙_, subst}
-use mathlib.Core.Bool.{Bool, true, false, cond}
-use mathlib.Core.List.{List, [], _∷_, _++_}
+use mathlib.Core.Path.{_≡_, refl, sym, ap, _∙_}
+use mathlib.Core.Bool.{true, false}
+use mathlib.Core.List.{List}
 use mathlib.Core.Logic.{_⊎_, inl, inr, ⊎-elim}
 use native.Mathlib.Omega.{arith}
 use native.Mathlib.Nat.{mul-le-mul-right}
@@ -15,14 +15,14 @@ use Rattle.links.specs.Parts.{part, putBack, Kept}
 use Rattle.links.specs.Graph.{linksIn, linksTo}
 use Rattle.links.proofs.ListLaws.{split, tally}
 use Rattle.links.proofs.PartLaws.{part-putBack, kept-refl, kept-trans, kept-wide, kept-set, kept-putBack, kept-part-before, kept-part-after}
-use Rattle.stages.specs.Level.{offsetsAt, neighborsAt, rowsAt, ownersAt, Laid, Ready}
+use Rattle.stages.specs.Level.{offsetsAt, neighborsAt, rowsAt, ownersAt}
 use Rattle.stages.specs.Swaps.{Candidate, ahead, candidates}
 use Rattle.stages.specs.Slots.{candidate, slots}
-use Rattle.stages.specs.MovesCode.{Clear, Tallied}
-use Rattle.stages.specs.SwapsCode.{listPlace, listAt, Given, offerVertex, Offered, Waiting, Met, Offering, OfferedEntry, Listed, Holding}
+use Rattle.stages.specs.MovesCode.{Tallied}
+use Rattle.stages.specs.SwapsCode.{listPlace, listAt, Given, Offered, Waiting, Met, Offering, OfferedEntry, Listed, Holding}
 use Rattle.stages.specs.declared.swaps.SwapRoom.{SwapRoom}
 use Rattle.stages.proofs.TallyLaws.{links-cons, links-none}
-use Rattle.stages.proofs.MovesSliceLaws.{neighbors-all, rows-all, neighbors-kept, row-part, row-rises, row-ends, rows-kept, owners-kept}
+use Rattle.stages.proofs.MovesSliceLaws.{neighbors-all, rows-all, neighbors-kept, row-part, row-ends, rows-kept, owners-kept}
 use Rattle.stages.proofs.SwapListLaws.{offer-other, offer-none, offer-some, listedTo, listed-more, listed-all}
 use Rattle.stages.proofs.SwapStepLaws.{given-after}
 
@@ -187,17 +187,17 @@ module _ {w₀ : List ℕ} {s : SwapRoom} {a v : ℕ} (g : Given w₀ s) (h : v 
         let room : s .lists + 24 * (k * k) ≤ length w₀ = g .lists-in in
         let tin : s .tallies + k ≤ s .lists = g .tallies-in in
         let kept₁ : Kept (s .tallies) (s .lists) w₁ w =
-            rw e₁ (kept-set (s .tallies) (s .lists) w w (s .tallies + c) 0 (kept-refl (s .tallies) (s .lists) w) (omega arith) (omega arith)) in
+        rw e₁ (kept-set (s .tallies) (s .lists) w w (s .tallies + c) 0 (kept-refl (s .tallies) (s .lists) w) (omega arith) (omega arith)) in
         let q : a * k + c < k * k = pair-below a c k a-in cr in
         let l₁ = kept₁ .same-length in
         let tallies₂ : (b : ℕ) → b < k → at w₂ (s .tallies + b) ≡ at w₁ (s .tallies + b) = λ b p. d .kept .below (s .tallies + b) (omega arith) in
         let other₁ : (b : ℕ) → (c ≡ b → ⊥) → at w₁ (s .tallies + b) ≡ at w (s .tallies + b) =
-            λ b p. ap (λ (z : List ℕ). at z (s .tallies + b)) e₁ ∙ getD-set-other w (s .tallies + c) (s .tallies + b) 0 0 (λ z. p (omega arith)) in
+        λ b p. ap (λ (z : List ℕ). at z (s .tallies + b)) e₁ ∙ getD-set-other w (s .tallies + c) (s .tallies + b) 0 0 (λ z. p (omega arith)) in
         let zero₁ : at w₁ (s .tallies + c) ≡ 0 =
-            ap (λ (z : List ℕ). at z (s .tallies + c)) e₁ ∙ getD-set-same w (s .tallies + c) 0 0 (omega arith) in
+        ap (λ (z : List ℕ). at z (s .tallies + c)) e₁ ∙ getD-set-same w (s .tallies + c) 0 0 (omega arith) in
         let list₁ : (x y : ℕ) → listAt w₁ s x y ≡ listAt w s x y = λ x y. list-kept s kept₁ (omega arith) x y in
         let list₂ : (x y : ℕ) → y < k → ((x ≡ a) × (y ≡ c) → ⊥) → listAt w₂ s x y ≡ listAt w s x y =
-            λ x y p r. list-other s a c (d .kept) x y cr p r ∙ list₁ x y in
+        λ x y p r. list-other s a c (d .kept) x y cr p r ∙ list₁ x y in
         record {
           kept = kept-trans (s .tallies) (length w₀) w₂ w₁ w₀
               (kept-wide (listPlace s a c) (listPlace s a c + 24) (s .tallies) (length w₀) w₂ w₁ (omega arith) (omega arith) (d .kept))
@@ -274,7 +274,7 @@ listed {w} {s} {v} g h a av w₁ w₂ w₃ k₁ o e₃ =
     let n₁ = k₁ .same-length in
     let n₂ = o .kept .same-length in
     let k₃ : Kept (s .tallies) (s .lists) w₃ w₂ =
-        rw e₃ (kept-set (s .tallies) (s .lists) w₂ w₂ (s .tallies + a) 0 (kept-refl (s .tallies) (s .lists) w₂) (omega arith) (omega arith)) in
+    rw e₃ (kept-set (s .tallies) (s .lists) w₂ w₂ (s .tallies + a) 0 (kept-refl (s .tallies) (s .lists) w₂) (omega arith) (omega arith)) in
     record {
       kept = kept-trans (s .tallies) (length w) w₃ w₂ w
           (kept-wide (s .tallies) (s .lists) (s .tallies) (length w) w₃ w₂ (omega arith) (omega arith) k₃)
@@ -288,11 +288,11 @@ listed {w} {s} {v} g h a av w₁ w₂ w₃ k₁ o e₃ =
       lists = λ x y p q d.
           list-kept s k₃ (omega arith) x y
           ∙ split (eqb x a)
-            (λ r. let e : x ≡ a = eqb-true x a r in
-            rw (e, ← rs, ← os, ← list-kept s k₁ tin a y) (offering-end g₁ h av₁ o y q (λ z. d (e ∙ sym z)) .offered))
-            (λ r. let n = eqb-false x a r in
-            o .others x y p q n ∙ list-kept s k₁ tin x y
-            ∙ sym (offer-other 8 (rowsAt w l) (ownersAt w l) x y (listAt w s x y) v (ne-eqb _ _ (λ z. n (sym (av ∙ z))))));
+          (λ r. let e : x ≡ a = eqb-true x a r in
+          rw (e, ← rs, ← os, ← list-kept s k₁ tin a y) (offering-end g₁ h av₁ o y q (λ z. d (e ∙ sym z)) .offered))
+          (λ r. let n = eqb-false x a r in
+          o .others x y p q n ∙ list-kept s k₁ tin x y
+          ∙ sym (offer-other 8 (rowsAt w l) (ownersAt w l) x y (listAt w s x y) v (ne-eqb _ _ (λ z. n (sym (av ∙ z))))));
     }
 
 -- ---- what the code's steps come to
@@ -370,7 +370,7 @@ module _ {w₀ w : List ℕ} {s : SwapRoom} (g : Given w₀ s) (k : Kept (s .tal
       : (v : ℕ) (w′ : List ℕ)
       → Listed w w′ s v
       → ((a b : ℕ) → a < s .limits .ranks → b < s .limits .ranks → (a ≡ b → ⊥)
-        → listAt w s a b ≡ listedTo 8 (rowsAt w₀ (s .level)) (ownersAt w₀ (s .level)) a b v)
+      → listAt w s a b ≡ listedTo 8 (rowsAt w₀ (s .level)) (ownersAt w₀ (s .level)) a b v)
       → (a b : ℕ)
       → a < s .limits .ranks
       → b < s .limits .ranks
@@ -379,11 +379,11 @@ module _ {w₀ w : List ℕ} {s : SwapRoom} (g : Given w₀ s) (k : Kept (s .tal
   listed-turn v w′ d f a b p q n =
       d .lists a b p q n
       ∙ rw (rows-same g k used-below, owners-same g k used-below, f a b p q n)
-        (sym (listed-more 8 (rowsAt w₀ (s .level)) (ownersAt w₀ (s .level)) a b v))
+      (sym (listed-more 8 (rowsAt w₀ (s .level)) (ownersAt w₀ (s .level)) a b v))
 
   pub listed-end
       : ((a b : ℕ) → a < s .limits .ranks → b < s .limits .ranks → (a ≡ b → ⊥)
-        → listAt w s a b ≡ listedTo 8 (rowsAt w₀ (s .level)) (ownersAt w₀ (s .level)) a b (s .level .vertices))
+      → listAt w s a b ≡ listedTo 8 (rowsAt w₀ (s .level)) (ownersAt w₀ (s .level)) a b (s .level .vertices))
       → Holding w s (ownersAt w₀ (s .level))
   listed-end f a b p q n =
       f a b p q n

@@ -2,7 +2,7 @@
 -- made, and a pass can be taken in parts. Assumes nothing.
 use Prim.Native.Nat.{ℕ, zero, suc, _+_, _-_, _*_, _≤_, _<_}
 use mathlib.Core.Path.{_≡_, refl, sym, ap, _∙_}
-use mathlib.Core.Bool.{Bool, true, false, cond, _&&_}
+use mathlib.Core.Bool.{Bool, true, false, _&&_}
 use mathlib.Core.List.{List, [], _∷_, _++_, map, append-assoc, append-nil}
 use native.Mathlib.Omega.{arith}
 use native.Mathlib.Numerals.{add-one}
@@ -174,9 +174,14 @@ module _ (rows : List (List ℕ)) where
       let ys = candidates n rows owners b a in
       let products = concatMap (λ x. map (propose rows x) ys) xs in
       let k : length (sortBy sooner (filter gains products)) ≤ m =
-      omega
-      (arith, h, length-sort sooner (filter gains products), count-length gains products, products-few n xs ys (candidates-few n owners b a),
-      mul-le-mul-right n (candidates-few n owners a b)) in
+      omega (
+        arith,
+        h,
+        length-sort sooner (filter gains products),
+        count-length gains products,
+        products-few n xs ys (candidates-few n owners b a),
+        mul-le-mul-right n (candidates-few n owners a b),
+      ) in
       sym (all-fold m [] xs ys) ∙ sym (take-sort sooner m (filter gains products)) ∙ take-all m (sortBy sooner (filter gains products)) k
 
   -- no candidates on one side: no proposals
@@ -246,10 +251,6 @@ module _ (b : Balance) (rows : List (List ℕ)) (weights : List ℕ) where
       (ap (λ (t : List Step). swap (p .first) (p .second) ∷ t)
       (pass-append ps qs (p .first ∷ p .second ∷ used) (after owners (swap (p .first) (p .second))))))
       (λ e. rw e (pass-append ps qs used owners))
-
-  pub pass-nil : (used owners : List ℕ) → swapPass b rows weights [] used owners ≡ []
-  unfolding swapPass
-  pass-nil used owners = refl
 
   pub pass-skip
       : (p : Proposal) (used owners : List ℕ)

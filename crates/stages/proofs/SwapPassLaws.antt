@@ -1,23 +1,21 @@
 -- Rule 7's passes in the work slice: the proposals of two ranks, of one rank and the later ones, of all; a pass, and the passes. Assumes nothing.
-use Prim.Native.Nat.{ℕ, zero, suc, _+_, _-_, _*_, _≤_, _<_}
-use mathlib.Core.Path.{_≡_, refl, sym, ap, _∙_, subst}
-use mathlib.Core.Bool.{Bool, true, false, not}
+use Prim.Native.Nat.{ℕ, suc, _+_, _-_, _*_, _≤_, _<_}
+use mathlib.Core.Path.{_≡_, refl, sym, ap, _∙_}
 use mathlib.Core.List.{List, [], _∷_, _++_, append-nil}
 use native.Mathlib.Omega.{arith}
 use native.Mathlib.Numerals.{add-one}
 use native.Mathlib.Nat.{zero-add}
-use lib.Dec.{eqb}
 use lib.ListN.{length}
 use Rattle.links.specs.Lists.{at, All, foldl, range, concatMap}
 use Rattle.links.specs.Parts.{part, Kept}
 use Rattle.links.specs.Graph.{row}
-use Rattle.links.proofs.PartLaws.{length-part, getD-part, kept-refl, kept-trans, kept-wide, kept-part-before}
-use Rattle.stages.specs.Level.{offsetsAt, neighborsAt, rowsAt, weightsAt, ownersAt, Laid, Ready, balanceIn}
-use Rattle.stages.specs.Moves.{Step, after, Steps, repeat}
-use Rattle.stages.specs.Swaps.{Candidate, Proposal, candidates, proposals, allProposals, swapPass, refineFinePairSwaps}
+use Rattle.links.proofs.PartLaws.{getD-part, kept-refl, kept-trans, kept-wide}
+use Rattle.stages.specs.Level.{offsetsAt, neighborsAt, rowsAt, weightsAt, ownersAt, Ready, balanceIn}
+use Rattle.stages.specs.Moves.{Step, after}
+use Rattle.stages.specs.Swaps.{Proposal, candidates, proposals, allProposals, refineFinePairSwaps}
 use Rattle.stages.specs.Slots.{candidate, proposal, slots}
-use Rattle.stages.specs.MovesCode.{Clear, Loaded, Ranked, Roomed}
-use Rattle.stages.specs.SwapsCode.{listPlace, listAt, Given, Standing, Marked, Empty, Holding, ListedAll, proposed, Fair, Named, Facing, Done, Taken, rankProposals, ranksProposals, passFrom, Stepped, swapsAt, Swappable, RefinedBySwaps}
+use Rattle.stages.specs.MovesCode.{Clear, Loaded, Roomed}
+use Rattle.stages.specs.SwapsCode.{listPlace, Given, Standing, Marked, Empty, Holding, ListedAll, proposed, Fair, Named, Facing, Taken, rankProposals, ranksProposals, passFrom, Stepped, swapsAt, Swappable, RefinedBySwaps}
 use Rattle.stages.specs.declared.swaps.SwapRoom.{SwapRoom}
 use Rattle.stages.proofs.CutLaws.{cut-entries, list-entries}
 use Rattle.stages.proofs.StepLaws.{swaps-few}
@@ -26,7 +24,7 @@ use Rattle.stages.proofs.MovesSliceLaws.{neighbors-all, owners-all, row
 use Rattle.stages.proofs.SlotLaws.{slots-empty}
 use Rattle.stages.proofs.SwapListLaws.{range-more, concat-append, proposals-are, proposals-none, proposals-none-back, candidates-fair, proposals-named}
 use Rattle.stages.proofs.SwapsSliceLaws.{row-few, roomed}
-use Rattle.stages.proofs.SwapStepLaws.{taken-none, taken-then, given-after}
+use Rattle.stages.proofs.SwapStepLaws.{taken-none, taken-then}
 use Rattle.stages.proofs.ListingLaws.{pair-below, list-kept, given-kept, owners-same}
 
 -- ---- two ranks
@@ -112,11 +110,11 @@ module _ {w : List ℕ} {s : SwapRoom} (g : Given w s) where
         let n : b + 1 - suc a ≡ suc (b - suc a) = omega arith in
         let m : suc a + (b - suc a) ≡ b = omega arith in
         let split-off : rankProposals (rowsAt w (s .level)) owners a (b + 1) ≡ ps ++ f b =
-            ap (λ (z : ℕ). concatMap f (range (suc a) z)) n
-            ∙ ap (concatMap f) (range-more (suc a) (b - suc a))
-            ∙ concat-append f (range (suc a) (b - suc a)) ((suc a + (b - suc a)) ∷ [])
-            ∙ ap (λ (z : ℕ). rankProposals (rowsAt w (s .level)) owners a b ++ (f z ++ [])) m
-            ∙ rw (append-nil (f b), e) in
+        ap (λ (z : ℕ). concatMap f (range (suc a) z)) n
+        ∙ ap (concatMap f) (range-more (suc a) (b - suc a))
+        ∙ concat-append f (range (suc a) (b - suc a)) ((suc a + (b - suc a)) ∷ [])
+        ∙ ap (λ (z : ℕ). rankProposals (rowsAt w (s .level)) owners a b ++ (f z ++ [])) m
+        ∙ rw (append-nil (f b), e) in
         rw split-off (taken-then g t (rw same-rows at u))
 
     -- one rank more
@@ -128,11 +126,11 @@ module _ {w : List ℕ} {s : SwapRoom} (g : Given w s) where
     rank-turn {w₂} {more} owners a e u =
         let f : ℕ → List Proposal = λ a. rankProposals (rowsAt w (s .level)) owners a k in
         let split-off : ranksProposals (rowsAt w (s .level)) owners k (a + 1) ≡ ps ++ f a =
-            ap (λ (z : ℕ). concatMap f (range 0 z)) (add-one a)
-            ∙ ap (concatMap f) (range-more 0 a)
-            ∙ concat-append f (range 0 a) ((0 + a) ∷ [])
-            ∙ ap (λ (z : ℕ). ranksProposals (rowsAt w (s .level)) owners k a ++ (f z ++ [])) (zero-add a)
-            ∙ rw (append-nil (f a), e) in
+        ap (λ (z : ℕ). concatMap f (range 0 z)) (add-one a)
+        ∙ ap (concatMap f) (range-more 0 a)
+        ∙ concat-append f (range 0 a) ((0 + a) ∷ [])
+        ∙ ap (λ (z : ℕ). ranksProposals (rowsAt w (s .level)) owners k a ++ (f z ++ [])) (zero-add a)
+        ∙ rw (append-nil (f a), e) in
         rw split-off (taken-then g t (rw same-rows at u))
 
 -- before the first pair, and before the first rank
@@ -196,9 +194,9 @@ module _ {w w₁ w₂ : List ℕ} {s : SwapRoom} (t : Standing w s) (z : Clear w
     marked₃ : Marked w₃ s []
     marked₃ v h =
         let e : at w₃ (s .used + v) ≡ 0 =
-            l .kept .below (s .used + v) (omega (arith, uses, loads-before))
-            ∙ k₂ .below (s .used + v) (omega (arith, uses, loads-before, tallies-before))
-            ∙ z₁ v h in
+        l .kept .below (s .used + v) (omega (arith, uses, loads-before))
+        ∙ k₂ .below (s .used + v) (omega (arith, uses, loads-before, tallies-before))
+        ∙ z₁ v h in
         rw e
 
     kept₃ : Kept (s .used) (length w) w₃ w
@@ -222,7 +220,7 @@ module _ {w w₁ w₂ : List ℕ} {s : SwapRoom} (t : Standing w s) (z : Clear w
         let weights₃ : weightsAt w₃ (s .level) ≡ weightsAt w (s .level) = weights-kept (t .given .ready) kept₃ low in
         let owners₃ : ownersAt w₃ (s .level) ≡ ownersAt w (s .level) = owners-same (t .given) kept₃ (omega arith) in
         let owners₂ : ownersAt w₂ (s .level) ≡ ownersAt w (s .level) =
-            owners-same (standing₁ .given) k₂ (omega (arith, uses, loads-before, tallies-before)) ∙ owners-same (t .given) k₁ (omega arith) in
+        owners-same (standing₁ .given) k₂ (omega (arith, uses, loads-before, tallies-before)) ∙ owners-same (t .given) k₁ (omega arith) in
         let e = rw (rows₃, weights₃, owners₃, owners₂) at (d .done [] marked₃) in
         record {
           owners-are = rw owners₃ at (e .owners-are);
@@ -364,9 +362,9 @@ module _ {w w₁ : List ℕ} (s : SwapRoom) (q : Swappable w (s .level) (s .used
         let owners₂ : ownersAt w₂ (s .level) ≡ ownersAt w (s .level) = owners-kept (q .ready) kept₂ (omega arith) in
         let made : List (List ℕ) → List ℕ → List ℕ → List Step = λ rows weights owners. refineFinePairSwaps (balanceIn (s .limits)) rows weights 8 passes owners .steps in
         let steps : swapsAt w₂ (s .level) (s .limits) passes ≡ swapsAt w (s .level) (s .limits) passes =
-            ap (λ (z : List (List ℕ)). made z (weightsAt w₂ (s .level)) (ownersAt w₂ (s .level))) rows₂
-            ∙ ap (λ (z : List ℕ). made (rowsAt w (s .level)) z (ownersAt w₂ (s .level))) weights₂
-            ∙ ap (made (rowsAt w (s .level)) (weightsAt w (s .level))) owners₂ in
+        ap (λ (z : List (List ℕ)). made z (weightsAt w₂ (s .level)) (ownersAt w₂ (s .level))) rows₂
+        ∙ ap (λ (z : List ℕ). made (rowsAt w (s .level)) z (ownersAt w₂ (s .level))) weights₂
+        ∙ ap (made (rowsAt w (s .level)) (weightsAt w (s .level))) owners₂ in
         record {
           owners = x .owners-are ∙ ap (foldl after (ownersAt w₂ (s .level))) steps ∙ ap (λ (z : List ℕ). foldl after z (swapsAt w (s .level) (s .limits) passes)) owners₂;
           number = x .counted ∙ ap length steps;

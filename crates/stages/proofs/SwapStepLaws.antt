@@ -1,27 +1,27 @@
 -- One swap in the work slice, and swaps made one after the other. Assumes nothing.
-use Prim.Native.Nat.{ℕ, zero, suc, _+_, _-_, _*_, _≤_, _<_, _^_}
+use Prim.Native.Nat.{ℕ, _+_, _-_, _≤_, _<_, _^_}
 use mathlib.Core.Path.{_≡_, refl, sym, ap, _∙_, subst}
-use mathlib.Core.Bool.{Bool, true, false, cond, not}
+use mathlib.Core.Bool.{true, false, cond}
 use mathlib.Core.List.{List, [], _∷_, _++_}
 use native.Mathlib.Omega.{arith}
 use lib.Dec.{eqb}
 use lib.ListN.{length, set, length-set, length-append}
 use lib.Seq.{getD-set-same, getD-set-other}
-use borrow.Author.Tests.{eq-eqb, ne-eqb, eqb-true, eqb-false}
-use Rattle.links.specs.Lists.{at, elem, sum, foldl}
-use Rattle.links.specs.Parts.{part, Kept}
+use borrow.Author.Tests.{eqb-true, eqb-false}
+use Rattle.links.specs.Lists.{at, foldl}
+use Rattle.links.specs.Parts.{Kept}
 use Rattle.links.specs.Graph.{load}
 use Rattle.links.proofs.ListLaws.{split}
 use Rattle.links.proofs.PartLaws.{part-set-in, part-set-after, kept-refl, kept-trans, kept-wide, kept-set, kept-part-before}
-use Rattle.stages.specs.Level.{rowsAt, weightsAt, ownersAt, Laid, Ready, balanceIn}
+use Rattle.stages.specs.Level.{rowsAt, weightsAt, ownersAt, balanceIn}
 use Rattle.stages.specs.Moves.{Step, swap, after}
 use Rattle.stages.specs.Swaps.{Proposal, applies, swapPass}
-use Rattle.stages.specs.SwapsCode.{Given, Standing, Marked, changed, traded, Tradable, Swapped, Done, Taken, usedBy}
+use Rattle.stages.specs.SwapsCode.{Given, Standing, Marked, changed, traded, Tradable, Swapped, Taken, usedBy}
 use Rattle.stages.specs.declared.swaps.SwapRoom.{SwapRoom}
 use Rattle.stages.proofs.LoadSetLaws.{load-set, load-sum, load-holds}
-use Rattle.stages.proofs.StepLaws.{length-after, foldl-append}
+use Rattle.stages.proofs.StepLaws.{foldl-append}
 use Rattle.stages.proofs.MovesSliceLaws.{owners-all, weights-all, owner-place, ready-kept, rows-kept, weights-kept}
-use Rattle.stages.proofs.SwapListLaws.{pass-append, pass-nil, pass-skip, pass-take}
+use Rattle.stages.proofs.SwapListLaws.{pass-append, pass-skip, pass-take}
 
 -- ---- loads
 
@@ -36,13 +36,13 @@ second-load {w} {loads} {a} {b} {x} {y} t w₁ e = split (eqb a b)
     (λ p.
     let q : loads + b ≡ loads + a = ap (λ (i : ℕ). loads + i) (sym (eqb-true a b p)) in
     let z : at w₁ (loads + b) ≡ at w (loads + a) - x + y =
-        ap (λ (l : List ℕ). at l (loads + b)) e ∙ ap (at (set w (loads + a) (at w (loads + a) - x + y))) q
-        ∙ getD-set-same w (loads + a) (at w (loads + a) - x + y) 0 (t .first-in) in
+    ap (λ (l : List ℕ). at l (loads + b)) e ∙ ap (at (set w (loads + a) (at w (loads + a) - x + y))) q
+    ∙ getD-set-same w (loads + a) (at w (loads + a) - x + y) 0 (t .first-in) in
     (omega (arith, t .gives, t .takes, t .first-light), omega (arith, t .gives, t .takes, t .first-light)))
     (λ p.
     let d = eqb-false a b p in
     let z : at w₁ (loads + b) ≡ at w (loads + b) =
-        ap (λ (l : List ℕ). at l (loads + b)) e ∙ getD-set-other w (loads + a) (loads + b) (at w (loads + a) - x + y) 0 (λ q. d (omega arith)) in
+    ap (λ (l : List ℕ). at l (loads + b)) e ∙ getD-set-other w (loads + a) (loads + b) (at w (loads + a) - x + y) 0 (λ q. d (omega arith)) in
     (omega (arith, t .takes), omega (arith, t .gives, t .takes, t .first-light, t .second-light)))
 
 -- a swap's loads: each rank gives what it had and takes what comes
@@ -59,8 +59,8 @@ load-swap ws os u v r h k e =
     let os₁ = set os u b in
     let l : length os₁ ≡ length os = length-set os u b in
     let d : at os₁ v ≡ b = split (eqb v u)
-        (λ p. ap (at os₁) (eqb-true v u p) ∙ getD-set-same os u b 0 h)
-        (λ p. getD-set-other os u v b 0 (eqb-false v u p)) in
+    (λ p. ap (at os₁) (eqb-true v u p) ∙ getD-set-same os u b 0 h)
+    (λ p. getD-set-other os u v b 0 (eqb-false v u p)) in
     let q = rw d at (load-set ws os₁ v (at os u) r (omega arith) (omega arith)) in
     omega (arith, load-set ws os u b r h (omega arith), q)
 
@@ -76,14 +76,14 @@ module _ {w : List ℕ} {loads a b x y : ℕ} (t : Tradable w loads a b x y) whe
       let y₁ = second-load t w₁ refl in
       let in₁ : loads + b < length w₁ = simp length-set (t .second-in) in
       let first : (i : ℕ) → eqb a i ≡ true → at w₁ (loads + i) ≡ at w (loads + i) - x + y =
-          λ i p. let q : a ≡ i = eqb-true a i p in rw (← q) (getD-set-same w (loads + a) z 0 (t .first-in)) in
+      λ i p. let q : a ≡ i = eqb-true a i p in rw (← q) (getD-set-same w (loads + a) z 0 (t .first-in)) in
       let other : (i : ℕ) → eqb a i ≡ false → at w₁ (loads + i) ≡ at w (loads + i) =
-          λ i p. getD-set-other w (loads + a) (loads + i) z 0 (λ q. eqb-false a i p (omega arith)) in
+      λ i p. getD-set-other w (loads + a) (loads + i) z 0 (λ q. eqb-false a i p (omega arith)) in
       split (eqb b r)
       (λ p.
       let e : b ≡ r = eqb-true b r p in
       let s : at (set w₁ (loads + b) (at w₁ (loads + b) - y + x)) (loads + r) ≡ at w₁ (loads + b) - y + x =
-          rw (← e) (getD-set-same w₁ (loads + b) (at w₁ (loads + b) - y + x) 0 in₁) in
+      rw (← e) (getD-set-same w₁ (loads + b) (at w₁ (loads + b) - y + x) 0 in₁) in
       split (eqb a r)
       (λ q.
       let f = first b (rw e q) in
@@ -95,7 +95,7 @@ module _ {w : List ℕ} {loads a b x y : ℕ} (t : Tradable w loads a b x y) whe
       rw (p, q) (omega (arith, s, f, t .takes, ap (λ (i : ℕ). at w (loads + i)) e))))
       (λ p.
       let s : at (set w₁ (loads + b) (at w₁ (loads + b) - y + x)) (loads + r) ≡ at w₁ (loads + r) =
-          getD-set-other w₁ (loads + b) (loads + r) (at w₁ (loads + b) - y + x) 0 (λ q. eqb-false b r p (omega arith)) in
+      getD-set-other w₁ (loads + b) (loads + r) (at w₁ (loads + b) - y + x) 0 (λ q. eqb-false b r p (omega arith)) in
       split (eqb a r)
       (λ q.
       let g : a ≡ r = eqb-true a r q in
@@ -164,10 +164,10 @@ module _ {w : List ℕ} {s : SwapRoom} (g : Given w s) (u v : ℕ) (h : u < s .l
       (λ p.
       let e : i ≡ u = eqb-true i u p in
       let z : at w₄ (s .used + i) ≡ 1 = split (eqb i v)
-          (λ q. rw (eqb-true i v q) (getD-set-same w₃ (s .used + v) 1 0 (omega (arith, inside))))
-          (λ q.
-          getD-set-other w₃ (s .used + v) (s .used + i) 1 0 (λ x. eqb-false i v q (omega arith))
-          ∙ rw e (getD-set-same w₂ (s .used + u) 1 0 (omega (arith, inside)))) in
+      (λ q. rw (eqb-true i v q) (getD-set-same w₃ (s .used + v) 1 0 (omega (arith, inside))))
+      (λ q.
+      getD-set-other w₃ (s .used + v) (s .used + i) 1 0 (λ x. eqb-false i v q (omega arith))
+      ∙ rw e (getD-set-same w₂ (s .used + u) 1 0 (omega (arith, inside)))) in
       rw (z, p))
       (λ p. split (eqb i v)
       (λ q.
@@ -175,10 +175,10 @@ module _ {w : List ℕ} {s : SwapRoom} (g : Given w s) (u v : ℕ) (h : u < s .l
       rw (z, p, q))
       (λ q.
       let z : at w₄ (s .used + i) ≡ at w (s .used + i) =
-          getD-set-other w₃ (s .used + v) (s .used + i) 1 0 (λ x. eqb-false i v q (omega arith))
-          ∙ getD-set-other w₂ (s .used + u) (s .used + i) 1 0 (λ x. eqb-false i u p (omega arith))
-          ∙ getD-set-other w₁ (o + v) (s .used + i) (at w (o + u)) 0 (λ x. omega arith)
-          ∙ getD-set-other w (o + u) (s .used + i) (at w (o + v)) 0 (λ x. omega arith) in
+      getD-set-other w₃ (s .used + v) (s .used + i) 1 0 (λ x. eqb-false i v q (omega arith))
+      ∙ getD-set-other w₂ (s .used + u) (s .used + i) 1 0 (λ x. eqb-false i u p (omega arith))
+      ∙ getD-set-other w₁ (o + v) (s .used + i) (at w (o + u)) 0 (λ x. omega arith)
+      ∙ getD-set-other w (o + u) (s .used + i) (at w (o + v)) 0 (λ x. omega arith) in
       rw (z, p, q) (m i l)))
 
 -- every owner stays a rank
@@ -272,15 +272,15 @@ module _ {w : List ℕ} {s : SwapRoom} (t : Standing w s) (u v : ℕ) (h : u < s
       let g = t .given in
       let room : s .loads + s .limits .ranks ≤ s .tallies = g .loads-in in
       let kept₂ : Kept (s .loads) (s .tallies) w₂ w₁ =
-          rw e₂ (traded-kept tradable (s .tallies) (omega (arith, ranks-in .0)) (omega (arith, ranks-in .1))) in
+      rw e₂ (traded-kept tradable (s .tallies) (omega (arith, ranks-in .0)) (omega (arith, ranks-in .1))) in
       let below : l .owners + l .vertices ≤ s .used = g .ready .laid .owners-in in
       let kept : Kept (l .owners) (s .tallies) w₂ w =
-          kept-trans (l .owners) (s .tallies) w₂ w₁ w
-          (kept-wide (s .loads) (s .tallies) (l .owners) (s .tallies) w₂ w₁ (omega (arith, g .used-in)) (omega arith) kept₂)
-          (kept-wide (l .owners) (s .used + l .vertices) (l .owners) (s .tallies) w₁ w (omega arith) (omega (arith, g .used-in)) kept₁) in
+      kept-trans (l .owners) (s .tallies) w₂ w₁ w
+      (kept-wide (s .loads) (s .tallies) (l .owners) (s .tallies) w₂ w₁ (omega (arith, g .used-in)) (omega arith) kept₂)
+      (kept-wide (l .owners) (s .used + l .vertices) (l .owners) (s .tallies) w₁ w (omega arith) (omega (arith, g .used-in)) kept₁) in
       let owners₁ : ownersAt w₁ l ≡ after os (swap u v) = rw e₁ (changed-owners g u v h k) in
       let owners₂ : ownersAt w₂ l ≡ after os (swap u v) =
-          kept-part-before (s .loads) (s .tallies) w₂ w₁ kept₂ (l .owners) (l .owners + l .vertices) (omega (arith, g .used-in)) ∙ owners₁ in
+      kept-part-before (s .loads) (s .tallies) w₂ w₁ kept₂ (l .owners) (l .owners + l .vertices) (omega (arith, g .used-in)) ∙ owners₁ in
       record {
         standing = record {
           given = given-after (l .owners) (s .tallies) g kept (omega arith)
@@ -311,7 +311,7 @@ module _ {w : List ℕ} {s : SwapRoom} (p : Proposal) where
   pub taken-skip
       : Standing w s
       → ((used : List ℕ) → Marked w s used
-        → false ≡ applies (balanceIn (s .limits)) (rowsAt w (s .level)) (weightsAt w (s .level)) used (ownersAt w (s .level)) (p .first) (p .second))
+      → false ≡ applies (balanceIn (s .limits)) (rowsAt w (s .level)) (weightsAt w (s .level)) used (ownersAt w (s .level)) (p .first) (p .second))
       → Taken w w s 0 (p ∷ [])
   taken-skip t f = record {
     standing = t;
@@ -324,7 +324,7 @@ module _ {w : List ℕ} {s : SwapRoom} (p : Proposal) where
   pub taken-swap
       : (w′ : List ℕ)
       → ((used : List ℕ) → Marked w s used
-        → true ≡ applies (balanceIn (s .limits)) (rowsAt w (s .level)) (weightsAt w (s .level)) used (ownersAt w (s .level)) (p .first) (p .second))
+      → true ≡ applies (balanceIn (s .limits)) (rowsAt w (s .level)) (weightsAt w (s .level)) used (ownersAt w (s .level)) (p .first) (p .second))
       → Swapped w w′ s (p .first) (p .second)
       → Taken w w′ s 1 (p ∷ [])
   taken-swap w′ f d = record {
@@ -360,7 +360,7 @@ taken-then {w} {w₁} {w₂} {s} {i} {j} {ps} {qs} g x y =
           let f : swapPass b (rowsAt w₁ l) (weightsAt w₁ l) qs used₁ (ownersAt w₁ l) ≡ ts = rw (rows, weights, d .owners-are) in
           let c : j ≡ length ts = e .counted ∙ ap length f in
           let o : ownersAt w₂ l ≡ foldl after (foldl after (ownersAt w l) ss) ts =
-              e .owners-are ∙ ap (foldl after (ownersAt w₁ l)) f ∙ ap (λ (z : List ℕ). foldl after z ts) (d .owners-are) in
+          e .owners-are ∙ ap (foldl after (ownersAt w₁ l)) f ∙ ap (λ (z : List ℕ). foldl after z ts) (d .owners-are) in
           let k : Marked w₂ s (foldl usedBy used₁ ts) = subst (λ (z : List Step). Marked w₂ s (foldl usedBy used₁ z)) f (e .marked) in
           rw (pass-append b (rowsAt w l) (weightsAt w l) ps qs used (ownersAt w l))
           (record {

@@ -1,25 +1,24 @@
 -- Rule 7's numbers in the work slice: where they lie, and what stays while others change. Assumes nothing.
-use Prim.Native.Nat.{ℕ, zero, suc, _+_, _-_, _*_, _≤_, _<_, _^_}
-use mathlib.Core.Path.{_≡_, refl, sym, ap, _∙_, subst}
-use mathlib.Core.Bool.{Bool, true, false, cond, not, _&&_}
-use mathlib.Core.List.{List, [], _∷_, _++_}
+use Prim.Native.Nat.{ℕ, zero, suc, _+_, _≤_, _<_}
+use mathlib.Core.Path.{_≡_, _∙_}
+use mathlib.Core.Bool.{true, false, _&&_}
+use mathlib.Core.List.{List}
 use native.Mathlib.Omega.{arith}
-use lib.Dec.{eqb, ltb, leb}
+use lib.Dec.{eqb, ltb}
 use borrow.Author.Tests.{lt-ltb, le-ltb}
-use lib.ListN.{length, set, length-set}
-use Rattle.links.specs.Lists.{at, elem}
-use Rattle.links.specs.Parts.{part, Kept}
-use Rattle.links.specs.Graph.{row, strictlyRising, Sound, linksIn, linksTo, load}
-use Rattle.links.proofs.PartLaws.{length-part, getD-part, part-part, kept-part-before, kept-part-after}
+use lib.ListN.{length}
+use Rattle.links.specs.Lists.{at}
+use Rattle.links.specs.Parts.{part}
+use Rattle.links.specs.Graph.{row, strictlyRising}
+use Rattle.links.proofs.PartLaws.{part-part}
 use Rattle.links.proofs.RowLaws.{length-row, row-below}
-use Rattle.links.proofs.ListLaws.{split}
-use Rattle.stages.specs.Level.{offsetsAt, neighborsAt, rowsAt, weightsAt, ownersAt, Laid, Ready, balanceIn}
+use Rattle.stages.specs.Level.{offsetsAt, neighborsAt, rowsAt, weightsAt, ownersAt, Ready, balanceIn}
 use Rattle.stages.specs.Moves.{swap, gain}
 use Rattle.stages.specs.Swaps.{inBalance, applies}
 use Rattle.stages.specs.MovesCode.{Roomed}
-use Rattle.stages.specs.SwapsCode.{Given, Standing, Marked}
+use Rattle.stages.specs.SwapsCode.{Given, Marked}
 use Rattle.stages.specs.declared.swaps.SwapRoom.{SwapRoom}
-use Rattle.stages.proofs.MovesSliceLaws.{ready-by, owner-place, vertices-all, neighbors-all, owners-all, rows-all, row-part, row-rises, row-ends, entry-below}
+use Rattle.stages.proofs.MovesSliceLaws.{ready-by, owner-place, vertices-all, owners-all, rows-all, row-part, row-rises, row-ends}
 
 -- what a row's two offsets say
 pub record RowAt (w : List ℕ) (s : SwapRoom) (v x y : ℕ) : Type 0 where
@@ -60,22 +59,24 @@ module _ {w : List ℕ} {s : SwapRoom} (g : Given w s) where
 
     pub row-few : length (row (rowsAt w (s .level)) v) ≤ 131072
     row-few =
-        omega
-        (arith, length-row (offsetsAt w (s .level)) (neighborsAt w (s .level)) (g .ready .lists) v (omega (arith, vertices-all (g .ready))), row-ends (g .ready) v h,
-        g .ready .short)
+        omega (
+          arith,
+          length-row (offsetsAt w (s .level)) (neighborsAt w (s .level)) (g .ready .lists) v (omega (arith, vertices-all (g .ready))),
+          row-ends (g .ready) v h,
+          g .ready .short,
+        )
 
     pub row-under : (i : ℕ) → i < length (row (rowsAt w (s .level)) v) → at (row (rowsAt w (s .level)) v) i < length (ownersAt w (s .level))
     row-under i k =
-        omega
-        (arith,
-        row-below (offsetsAt w (s .level)) (neighborsAt w (s .level)) (g .ready .lists) v (omega (arith, vertices-all (g .ready))) i k,
-        vertices-all (g .ready), owners-all (g .ready))
+        omega (
+          arith,
+          row-below (offsetsAt w (s .level)) (neighborsAt w (s .level)) (g .ready .lists) v (omega (arith, vertices-all (g .ready))) i k,
+          vertices-all (g .ready),
+          owners-all (g .ready),
+        )
 
     pub owner-is : at (ownersAt w (s .level)) v ≡ at w (s .level .owners + v)
     owner-is = owner-place (g .ready) v h
-
-    pub owner-ranked : at w (s .level .owners + v) < s .limits .ranks
-    owner-ranked = rw owner-is at (g .ranked v h)
 
 -- the five tests of a swap, as the code makes them
 pub applies-is
@@ -86,9 +87,9 @@ pub applies-is
     → v < s .level .vertices
     → applies (balanceIn (s .limits)) (rowsAt w (s .level)) (weightsAt w (s .level)) used (ownersAt w (s .level)) u v
     ≡ (eqb (at w (s .used + u)) 0 && eqb (at w (s .used + v)) 0
-      && ltb 0 (gain (rowsAt w (s .level)) (ownersAt w (s .level)) (swap u v))
-      && inBalance (balanceIn (s .limits)) (rowsAt w (s .level)) (weightsAt w (s .level)) (ownersAt w (s .level)) (at (ownersAt w (s .level)) u)
-      && inBalance (balanceIn (s .limits)) (rowsAt w (s .level)) (weightsAt w (s .level)) (ownersAt w (s .level)) (at (ownersAt w (s .level)) v))
+    && ltb 0 (gain (rowsAt w (s .level)) (ownersAt w (s .level)) (swap u v))
+    && inBalance (balanceIn (s .limits)) (rowsAt w (s .level)) (weightsAt w (s .level)) (ownersAt w (s .level)) (at (ownersAt w (s .level)) u)
+    && inBalance (balanceIn (s .limits)) (rowsAt w (s .level)) (weightsAt w (s .level)) (ownersAt w (s .level)) (at (ownersAt w (s .level)) v))
 unfolding applies
 applies-is w s used m u v h k = rw (m u h, m v k)
 

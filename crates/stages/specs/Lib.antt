@@ -4,10 +4,10 @@ pub mod Seeds
 pub mod Growth
 pub mod Moves
 pub mod Swaps
-pub mod CoarsenCode
-pub mod CoarsenParts
 pub mod Slots
 pub mod SwapsCode
+pub mod CoarsenCode
+pub mod CoarsenParts
 pub mod MovesCode
 pub mod SeedsCode
 pub mod FrontierCode

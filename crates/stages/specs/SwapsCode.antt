@@ -1,17 +1,17 @@
 -- What the code of rule 7 keeps in the work slice, and what it promises. Assumes nothing.
 use Prim.Native.Nat.{ℕ, suc, _+_, _-_, _*_, _≤_, _<_, _^_}
 use mathlib.Core.Path.{_≡_}
-use mathlib.Core.Bool.{Bool, not, _&&_, cond}
+use mathlib.Core.Bool.{not, _&&_, cond}
 use mathlib.Core.List.{List, [], _∷_}
 use mathlib.Core.Logic.{_⊎_}
 use lib.Dec.{ltb, eqb}
 use lib.ListN.{length, take, set}
 use Rattle.links.specs.Lists.{at, insert, foldl, elem, range, concatMap}
 use Rattle.links.specs.Parts.{part, Kept}
-use Rattle.links.specs.Graph.{linksIn, linksTo, load}
+use Rattle.links.specs.Graph.{linksIn, linksTo}
 use Rattle.stages.specs.Level.{offsetsAt, neighborsAt, rowsAt, weightsAt, ownersAt, Ready, balanceIn}
 use Rattle.stages.specs.Moves.{Step, move, swap, after}
-use Rattle.stages.specs.Swaps.{Candidate, Proposal, ahead, sooner, propose, proposals, candidates, applies, swapPass, allProposals, refineFinePairSwaps}
+use Rattle.stages.specs.Swaps.{Candidate, Proposal, ahead, sooner, propose, proposals, candidates, swapPass, allProposals, refineFinePairSwaps}
 use Rattle.stages.specs.MovesCode.{Ranked, Clear, Loaded}
 use Rattle.stages.specs.Slots.{candidate, slots}
 use Rattle.stages.specs.declared.level.HierarchyLevel.{HierarchyLevel}
@@ -233,6 +233,7 @@ pub record Swappable (w : List ℕ) (l : HierarchyLevel) (scratch lists ranks : 
   pub few : ranks ≤ 256
   pub ranked : Ranked w l ranks
 
+-- rule 7's owners and number of swaps; what lies below the owners is left alone
 pub record RefinedBySwaps (w w′ : List ℕ) (l : HierarchyLevel) (scratch : ℕ) (limits : Limits) (passes r : ℕ) : Type 0 where
   pub owners : ownersAt w′ l ≡ foldl after (ownersAt w l) (swapsAt w l limits passes)
   pub number : r ≡ length (swapsAt w l limits passes)

@@ -1,9 +1,9 @@
 // Rule 7: swaps on the finest level, over one lent work slice.
 ghost use mathlib.Core.Path.{_≡_};
-ghost use mathlib.Core.Bool.{Bool, true, false};
+ghost use mathlib.Core.Bool.{false};
 ghost use mathlib.Core.List.{List, [], _∷_};
 ghost use Prim.Native.Nat.{ℕ, _+_, _-_, _*_, _≤_, _<_, _^_};
-ghost use lib.ListN.{length, set};
+ghost use lib.ListN.{length};
 ghost use Rattle.links.specs.Lists.{at, All, foldl};
 ghost use Rattle.links.specs.Graph.{row, linksIn, linksTo};
 ghost use Rattle.stages.specs.Level.{offsetsAt, neighborsAt, rowsAt, weightsAt, ownersAt, balanceIn};
@@ -58,11 +58,7 @@ fn linked(w: &[u32], s: SwapRoom, u: usize, v: usize) -> u32
     requires { ⌜ Given (now w) s × (u < s .level .vertices) ⌝ }
     ensures { λ r. ⌜ (r ≤ 1) × (r ≡ linked (rowsAt (now (w .entry)) (s .level)) u v) ⌝ }
 {
-    if holds(row_of(w, s, u), v) {
-        1
-    } else {
-        0
-    }
+    if holds(row_of(w, s, u), v) { 1 } else { 0 }
 }
 
 // ---- candidates
@@ -160,7 +156,15 @@ fn propose(list: &mut [u32], room: usize, w: &[u32], s: SwapRoom, x: Member, y: 
 }
 
 // The products of one candidate and a list of n slots.
-fn propose_row(list: &mut [u32], room: usize, w: &[u32], s: SwapRoom, x: Member, back: &[u32], n: usize)
+fn propose_row(
+    list: &mut [u32],
+    room: usize,
+    w: &[u32],
+    s: SwapRoom,
+    x: Member,
+    back: &[u32],
+    n: usize,
+)
     requires { ⌜ Given (now w) s × (length (now list) ≡ 3 * room) × Fair (s .level .vertices) (candidateOf x)
         × (length (now back) ≡ 3 * n) × All (Fair (s .level .vertices)) (slots candidate n (now back)) ⌝ }
     ensures { λ _. ⌜ slots proposal room (now (list .exit))
@@ -179,7 +183,15 @@ fn propose_row(list: &mut [u32], room: usize, w: &[u32], s: SwapRoom, x: Member,
 }
 
 // All products of two lists of n slots.
-fn propose_all(list: &mut [u32], room: usize, w: &[u32], s: SwapRoom, fore: &[u32], back: &[u32], n: usize)
+fn propose_all(
+    list: &mut [u32],
+    room: usize,
+    w: &[u32],
+    s: SwapRoom,
+    fore: &[u32],
+    back: &[u32],
+    n: usize,
+)
     requires { ⌜ Given (now w) s × (length (now list) ≡ 3 * room)
         × (length (now fore) ≡ 3 * n) × All (Fair (s .level .vertices)) (slots candidate n (now fore))
         × (length (now back) ≡ 3 * n) × All (Fair (s .level .vertices)) (slots candidate n (now back)) ⌝ }

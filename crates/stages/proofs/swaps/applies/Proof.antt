@@ -1,85 +1,65 @@
-use Prim.Native.Nat.{ℕ, _<_}
-use mathlib.Core.Path.{_≡_, sym, ap, _∙_}
+-- The five tests, one after the other. Assumes nothing.
+use mathlib.Core.Path.{sym, ap, _∙_}
 use borrow.Author.Tests.{eq-eqb, ne-eqb}
+use borrow.Author.Needs.{needs}
 use Rattle.stages.specs.Level.{rowsAt, weightsAt, ownersAt, balanceIn}
 use Rattle.stages.specs.Swaps.{inBalance}
 use Rattle.stages.proofs.SwapsSliceLaws.{whole, applies-is, gains, gains-not}
 use Rattle.stages.proofs.SwapListLaws.{test-1, test-2, test-3, test-4, test-5}
-use borrow.Author.Needs.{needs}
 use Rattle.stages.proofs.swaps.applies.Statement.{statement}
 use Rattle.stages.proofs.swaps.applies.Tie as tie
-use Rattle.stages.proofs.swaps.applies.Reads as reads
-use Rattle.stages.proofs.swaps.applies.Lts as lts
-use Rattle.stages.proofs.moves.owner_in.Reads as owner-in-reads
-use Rattle.stages.proofs.swaps.in_balance.Reads as in-balance-reads
-use Rattle.stages.proofs.swaps.swap_gain.Reads as swap-gain-reads
 
--- src/swaps.rt:189:10
 add-if1 : tie.Need-add-if1
 add-if1 c = search needs
 
--- src/swaps.rt:189:8
 mul-if1 : tie.Need-mul-if1
 mul-if1 c = search needs
 
--- src/swaps.rt:189:8
 shared-slice-read-if1 : tie.Need-shared-slice-read-if1
 shared-slice-read-if1 c = search needs
 
--- src/swaps.rt:190:9
 returns : tie.Need-returns
 returns c =
     let a = c .before .before .before .args in
     let p = c .before .before .before .pre in
     λ used m. test-1 _ _ _ _ _ _ (applies-is (a .w .now) (a .s) used m (a .u) (a .v) (p .1) (p .2)) (ne-eqb _ _ (c .if1 .taken))
 
--- src/swaps.rt:192:10
 add-if2 : tie.Need-add-if2
 add-if2 c = search needs
 
--- src/swaps.rt:192:8
 mul-if2 : tie.Need-mul-if2
 mul-if2 c = search needs
 
--- src/swaps.rt:192:8
 shared-slice-read-if2 : tie.Need-shared-slice-read-if2
 shared-slice-read-if2 c = search needs
 
--- src/swaps.rt:193:9
 returns-2 : tie.Need-returns-2
 returns-2 c =
     let a = c .before .before .before .before .before .args in
     let p = c .before .before .before .before .before .pre in
     λ used m. test-2 _ _ _ _ _ _ (applies-is (a .w .now) (a .s) used m (a .u) (a .v) (p .1) (p .2)) (eq-eqb _ _ (c .before .before .if1 .left)) (ne-eqb _ _ (c .if2 .taken))
 
--- src/swaps.rt:195:8
 swap-gain-requires : tie.Need-swap-gain-requires
 swap-gain-requires c κs = search needs
 
--- src/swaps.rt:196:9
 returns-3 : tie.Need-returns-3
 returns-3 c =
     let a = c .before .before .before .before .before .before .before .args in
     let p = c .before .before .before .before .before .before .before .pre in
     λ used m. test-3 _ _ _ _ _ _ (applies-is (a .w .now) (a .s) used m (a .u) (a .v) (p .1) (p .2)) (eq-eqb _ _ (c .before .before .before .before .if1 .left)) (eq-eqb _ _ (c .before .before .if2 .left)) (gains-not _ (c .before .swap-gain .result) (c .before .swap-gain .ensures) (c .if3 .taken))
 
--- src/swaps.rt:198:25
 owner-in-requires : tie.Need-owner-in-requires
 owner-in-requires c κs = (whole (c .before .before .before .before .before .before .before .pre .0 .given), c .before .before .before .before .before .before .before .pre .1)
 
--- src/swaps.rt:198:8
 in-balance-requires : tie.Need-in-balance-requires
 in-balance-requires c κs = (c .before .before .before .before .before .before .before .before .pre .0, rw (c .owner-in .ensures) (c .before .before .before .before .before .before .before .before .pre .0 .given .ranked (c .before .before .before .before .before .before .before .before .args .u) (c .before .before .before .before .before .before .before .before .pre .1)))
 
--- src/swaps.rt:199:33
 owner-in-requires-2 : tie.Need-owner-in-requires-2
 owner-in-requires-2 c κs = (whole (c .before .before .before .before .before .before .before .before .before .before .pre .0 .given), c .before .before .before .before .before .before .before .before .before .before .pre .2)
 
--- src/swaps.rt:199:9
 in-balance-requires-2 : tie.Need-in-balance-requires-2
 in-balance-requires-2 c κs = (c .before .before .before .before .before .before .before .before .before .before .before .pre .0, rw (c .owner-in2 .ensures) (c .before .before .before .before .before .before .before .before .before .before .before .pre .0 .given .ranked (c .before .before .before .before .before .before .before .before .before .before .before .args .v) (c .before .before .before .before .before .before .before .before .before .before .before .pre .2)))
 
--- src/swaps.rt:199:9
 returns-4 : tie.Need-returns-4
 returns-4 c =
     let a = c .before .before .before .before .before .before .before .before .before .before .before .before .args in
@@ -88,7 +68,6 @@ returns-4 c =
     λ used m. test-5 _ _ _ _ _ _ (applies-is (a .w .now) (a .s) used m (a .u) (a .v) (p .1) (p .2)) (c .in-balance2 .result) (eq-eqb _ _ (c .before .before .before .before .before .before .before .before .before .if1 .left)) (eq-eqb _ _ (c .before .before .before .before .before .before .before .if2 .left)) (gains _ (c .before .before .before .before .before .before .swap-gain .result) (c .before .before .before .before .before .before .swap-gain .ensures) (c .before .before .before .before .before .if3 .left))
     (ap balanced (sym (c .before .before .before .before .owner-in .ensures)) ∙ sym (c .before .before .before .in-balance .ensures) ∙ c .before .before .if4 .taken) (c .in-balance2 .ensures ∙ ap balanced (c .before .owner-in2 .ensures))
 
--- src/swaps.rt:182:1
 returns-5 : tie.Need-returns-5
 returns-5 c =
     let a = c .before .before .before .before .before .before .before .before .before .before .args in

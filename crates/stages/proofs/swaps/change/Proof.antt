@@ -1,90 +1,69 @@
+-- Four stores. Assumes nothing.
 use mathlib.Core.Path.{refl}
 use native.Mathlib.Omega.{arith}
 use lib.ListN.{length-set}
-use Rattle.stages.specs.SwapsCode.{changed}
 use borrow.Author.Needs.{needs}
+use Rattle.stages.specs.SwapsCode.{changed}
 use Rattle.stages.proofs.swaps.change.Statement.{statement}
 use Rattle.stages.proofs.swaps.change.Tie as tie
-use Rattle.stages.proofs.swaps.change.Reads as reads
-use Rattle.stages.proofs.swaps.change.Lts as lts
 
--- src/swaps.rt:214:18
 add-a : tie.Need-add-a
 add-a c = search needs
 
--- src/swaps.rt:214:13
 mul-a : tie.Need-mul-a
 mul-a c = search needs
 
--- src/swaps.rt:214:13
 slice-read-a : tie.Need-slice-read-a
 slice-read-a c = search needs
 
--- src/swaps.rt:215:18
 add-b : tie.Need-add-b
 add-b c = search needs
 
--- src/swaps.rt:215:13
 mul-b : tie.Need-mul-b
 mul-b c = search needs
 
--- src/swaps.rt:215:13
 slice-read-b : tie.Need-slice-read-b
 slice-read-b c = search needs
 
--- src/swaps.rt:216:10
 add-work : tie.Need-add-work
 add-work c = search needs
 
--- src/swaps.rt:216:5
 mul-work : tie.Need-mul-work
 mul-work c = search needs
 
--- src/swaps.rt:216:5
 slice-write-work : tie.Need-slice-write-work
 slice-write-work c = search needs
 
--- src/swaps.rt:217:10
 add-work-2 : tie.Need-add-work-2
 add-work-2 c = search needs
 
--- src/swaps.rt:217:5
 mul-work-2 : tie.Need-mul-work-2
 mul-work-2 c = search needs
 
--- src/swaps.rt:217:5
 slice-write-work-2 : tie.Need-slice-write-work-2
 slice-write-work-2 c = simp length-set (omega arith)
 
--- src/swaps.rt:218:10
 add-work-3 : tie.Need-add-work-3
 add-work-3 c = search needs
 
--- src/swaps.rt:218:5
 mul-work-3 : tie.Need-mul-work-3
 mul-work-3 c = search needs
 
--- src/swaps.rt:218:5
 slice-write-work-3 : tie.Need-slice-write-work-3
 slice-write-work-3 c = simp length-set (omega arith)
 
--- src/swaps.rt:219:10
 add-work-4 : tie.Need-add-work-4
 add-work-4 c = search needs
 
--- src/swaps.rt:219:5
 mul-work-4 : tie.Need-mul-work-4
 mul-work-4 c = search needs
 
--- src/swaps.rt:219:5
 slice-write-work-4 : tie.Need-slice-write-work-4
 slice-write-work-4 c = simp length-set (omega arith)
 
--- src/swaps.rt:208:1
 same-length : tie.Need-same-length
 same-length c = search needs
 
--- src/swaps.rt:208:1
 returns : tie.Need-returns
 unfolding changed
 returns c = refl

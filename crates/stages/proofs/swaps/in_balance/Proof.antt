@@ -1,41 +1,31 @@
-use Prim.Native.Nat.{_+_}
+-- The load is the sum of the weights. Assumes nothing.
 use mathlib.Core.Path.{_∙_}
-use native.Mathlib.Omega.{arith}
+use borrow.Author.Needs.{needs}
 use Rattle.links.specs.Graph.{load}
 use Rattle.stages.specs.Level.{weightsAt, ownersAt}
 use Rattle.stages.specs.Swaps.{inBalance}
 use Rattle.stages.proofs.SwapListLaws.{under-floor, from-floor}
-use borrow.Author.Needs.{needs}
 use Rattle.stages.proofs.swaps.in_balance.Statement.{statement}
 use Rattle.stages.proofs.swaps.in_balance.Tie as tie
-use Rattle.stages.proofs.swaps.in_balance.Reads as reads
-use Rattle.stages.proofs.swaps.in_balance.Lts as lts
-use Rattle.links.proofs.wide.Reads as wide-reads
 
--- src/swaps.rt:186:23
 add-wide : tie.Need-add-wide
 add-wide c = search needs
 
--- src/swaps.rt:186:21
 mul-wide : tie.Need-mul-wide
 mul-wide c = search needs
 
--- src/swaps.rt:186:21
 shared-slice-read-wide : tie.Need-shared-slice-read-wide
 shared-slice-read-wide c = search needs
 
--- src/swaps.rt:186:9
 wide-requires : tie.Need-wide-requires
 wide-requires c κs = search needs
 
--- src/swaps.rt:188:9
 returns : tie.Need-returns
 unfolding inBalance
 returns c =
     let a = c .before .before .before .before .before .args in
     under-floor (a .s .limits .floor) (a .s .limits .cap) (c .before .before .wide .result) (load (weightsAt (a .w .now) (a .s .level)) (ownersAt (a .w .now) (a .s .level)) (a .r)) (c .before .before .wide .ensures ∙ c .before .before .before .before .before .pre .0 .loaded (a .r) (c .before .before .before .before .before .pre .1)) (c .if1 .taken)
 
--- src/swaps.rt:180:1
 returns-2 : tie.Need-returns-2
 unfolding inBalance
 returns-2 c =

@@ -1,29 +1,24 @@
-use mathlib.Core.Path.{_≡_, sym, ap, _∙_}
+-- The row is searched. Assumes nothing.
+use mathlib.Core.Path.{sym, ap, _∙_}
 use mathlib.Core.Bool.{Bool, cond}
 use native.Mathlib.Omega.{arith}
+use borrow.Author.Needs.{needs}
 use Rattle.links.specs.Lists.{elem}
 use Rattle.stages.specs.Moves.{linked}
 use Rattle.stages.proofs.SwapsSliceLaws.{row-sorted}
-use borrow.Author.Needs.{needs}
 use Rattle.stages.proofs.swaps.linked.Statement.{statement}
 use Rattle.stages.proofs.swaps.linked.Tie as tie
-use Rattle.stages.proofs.swaps.linked.Reads as reads
-use Rattle.stages.proofs.swaps.linked.Lts as lts
 
--- src/swaps.rt:64:14
 row-of-requires : tie.Need-row-of-requires
 row-of-requires c κs = search needs
 
--- src/swaps.rt:64:8
 holds-requires : tie.Need-holds-requires
 holds-requires c κs = rw (c .row-of .ensures) (row-sorted (c .before .before .pre .0) (c .before .before .args .u) (c .before .before .pre .1))
 
--- src/swaps.rt:60:1
 returns : tie.Need-returns
 unfolding linked
 returns c = (omega arith, ap (λ (b : Bool). cond b 1 0) (sym (c .if1 .taken) ∙ c .before .holds .ensures ∙ ap (elem (c .before .before .before .before .args .v)) (c .before .before .row-of .ensures)))
 
--- src/swaps.rt:60:1
 returns-2 : tie.Need-returns-2
 unfolding linked
 returns-2 c = (omega arith, ap (λ (b : Bool). cond b 1 0) (sym (c .if1 .left) ∙ c .before .holds .ensures ∙ ap (elem (c .before .before .before .before .args .v)) (c .before .before .row-of .ensures)))

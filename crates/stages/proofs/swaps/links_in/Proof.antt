@@ -1,22 +1,20 @@
-use Prim.Native.Nat.{ℕ, _+_, _-_, _≤_, _<_}
+-- The invariant: n and the links from i on make up all. Assumes nothing.
+use Prim.Native.Nat.{ℕ, _+_, _-_, _≤_}
 use mathlib.Core.List.{List}
-use mathlib.Core.Path.{_≡_, refl, sym, ap, _∙_}
+use mathlib.Core.Path.{_≡_, sym, ap, _∙_}
 use mathlib.Core.Logic.{⊎-elim}
 use native.Mathlib.Omega.{arith}
 use lib.ListN.{length}
 use borrow.Author.Tests.{eq-eqb, ne-eqb}
+use borrow.Author.Needs.{needs}
 use Rattle.links.specs.Lists.{at}
 use Rattle.links.specs.Parts.{part}
 use Rattle.links.specs.Graph.{linksIn}
 use Rattle.links.proofs.ListLaws.{tally}
 use Rattle.stages.proofs.TallyLaws.{links-cons, links-none}
 use Rattle.stages.proofs.SwapListLaws.{part-whole}
-use borrow.Author.Needs.{needs}
 use Rattle.stages.proofs.swaps.links_in.Statement.{statement}
 use Rattle.stages.proofs.swaps.links_in.Tie as tie
-use Rattle.stages.proofs.swaps.links_in.Reads as reads
-use Rattle.stages.proofs.swaps.links_in.Lts as lts
-use Rattle.links.proofs.index.Reads as index-reads
 
 abbrev Inv-loop : tie.InvT-loop
 Inv-loop row owners r n₀ i₀ n i = (i ≤ length row) × (n ≤ i) × (n + linksIn (part row i (length row)) owners r ≡ linksIn row owners r)
@@ -24,45 +22,35 @@ Inv-loop row owners r n₀ i₀ n i = (i ≤ length row) × (n ≤ i) × (n + li
 abbrev μ-loop : tie.MeasureT-loop
 μ-loop row owners r n₀ i₀ n i = length row - i
 
--- src/swaps.rt:145:5
 loop-holds : tie.Need-loop-holds Inv-loop μ-loop
 loop-holds c =
     let a = c .before .before .args in
     (omega arith, omega arith, omega (arith, ap (λ (z : List ℕ). linksIn z (a .owners .now) (a .r)) (part-whole (a .row .now))))
 
--- src/swaps.rt:146:23
 mul-index : tie.Need-mul-index Inv-loop μ-loop
 mul-index c = search needs
 
--- src/swaps.rt:146:23
 shared-slice-read-index : tie.Need-shared-slice-read-index Inv-loop μ-loop
 shared-slice-read-index c = search needs
 
--- src/swaps.rt:146:13
 index-requires : tie.Need-index-requires Inv-loop μ-loop
 index-requires c κs = search needs
 
--- src/swaps.rt:147:12
 mul-if1 : tie.Need-mul-if1 Inv-loop μ-loop
 mul-if1 c = omega (arith, c .index .ensures, c .before .before .before .before .before .before .pre .1 (c .before .before .before .loop .i) (omega arith))
 
--- src/swaps.rt:147:12
 shared-slice-read-if1 : tie.Need-shared-slice-read-if1 Inv-loop μ-loop
 shared-slice-read-if1 c = omega (arith, c .before .index .ensures, c .before .before .before .before .before .before .before .pre .1 (c .before .before .before .before .loop .i) (omega arith))
 
--- src/swaps.rt:148:13
 add-n : tie.Need-add-n Inv-loop μ-loop
 add-n c = omega arith
 
--- src/swaps.rt:150:9
 add-i : tie.Need-add-i Inv-loop μ-loop
 add-i c = search needs
 
--- src/swaps.rt:145:5
 loop-less : tie.Need-loop-less Inv-loop μ-loop
 loop-less c = omega arith
 
--- src/swaps.rt:145:5
 loop-again : tie.Need-loop-again Inv-loop μ-loop
 loop-again c =
     let l = c .before .before .before .before .before .loop in
@@ -74,7 +62,6 @@ loop-again c =
     (λ w. (omega arith, omega arith, omega (arith, k, ap tally (ne-eqb _ _ (λ q. w .0 .left (sym o ∙ q))))))
     (c .if1 .came)
 
--- src/swaps.rt:139:1
 returns : tie.Need-returns Inv-loop μ-loop
 returns c =
     let l = c .before .loop in

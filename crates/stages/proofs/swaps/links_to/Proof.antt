@@ -1,56 +1,45 @@
-use Prim.Native.Nat.{ℕ, _+_}
-use mathlib.Core.Path.{_≡_, ap, _∙_}
+-- The row and the owners are parts of the work slice. Assumes nothing.
+use Prim.Native.Nat.{ℕ}
+use mathlib.Core.Path.{ap, _∙_}
 use mathlib.Core.List.{List}
 use native.Mathlib.Omega.{arith}
 use lib.ListN.{length}
-use Rattle.links.specs.Lists.{at}
+use borrow.Author.Needs.{needs}
 use Rattle.links.specs.Graph.{linksIn}
 use Rattle.stages.specs.Level.{ownersAt}
 use Rattle.stages.proofs.SwapsSliceLaws.{row-few, row-under}
-use borrow.Author.Needs.{needs}
 use Rattle.stages.proofs.swaps.links_to.Statement.{statement}
 use Rattle.stages.proofs.swaps.links_to.Tie as tie
-use Rattle.stages.proofs.swaps.links_to.Reads as reads
-use Rattle.stages.proofs.swaps.links_to.Lts as lts
-use Rattle.stages.proofs.swaps.links_in.Reads as links-in-reads
-use Rattle.stages.proofs.swaps.row_of.Reads as row-of-reads
 
--- src/swaps.rt:161:13
 add-e : tie.Need-add-e
 add-e c = search needs
 
--- src/swaps.rt:162:14
 row-of-requires : tie.Need-row-of-requires
 row-of-requires c κs = search needs
 
--- src/swaps.rt:162:31
 mul-links-in : tie.Need-mul-links-in
 mul-links-in c = search needs
 
--- src/swaps.rt:162:31
 sub-links-in : tie.Need-sub-links-in
 sub-links-in c = search needs
 
--- src/swaps.rt:162:31
 part-links-in-start : tie.Need-part-links-in-start
 part-links-in-start c = search needs
 
--- src/swaps.rt:162:31
 part-links-in-end : tie.Need-part-links-in-end
 part-links-in-end c = search needs
 
--- src/swaps.rt:162:5
 links-in-requires : tie.Need-links-in-requires
 links-in-requires c κs =
     let e = c .before .row-of .ensures in
     (rw e (row-few (c .before .before .before .before .pre .0) (c .before .before .before .before .args .v) (c .before .before .before .before .pre .1)), rw e (row-under (c .before .before .before .before .pre .0) (c .before .before .before .before .args .v) (c .before .before .before .before .pre .1)))
 
--- src/swaps.rt:156:1
 returns : tie.Need-returns
 returns c =
-    let e = c .before .before .row-of .ensures in
-    (omega (arith, ap length e, row-few (c .before .before .before .before .before .pre .0) (c .before .before .before .before .before .args .v) (c .before .before .before .before .before .pre .1), c .links-in .ensures .0),
-    c .links-in .ensures .1 ∙ ap (λ (z : List ℕ). linksIn z (ownersAt (c .before .before .before .before .before .args .w .now) (c .before .before .before .before .before .args .s .level)) (c .before .before .before .before .before .args .r)) e)
+    let e = c .before .before .row-of .ensures in (
+      omega (arith, ap length e, row-few (c .before .before .before .before .before .pre .0) (c .before .before .before .before .before .args .v) (c .before .before .before .before .before .pre .1), c .links-in .ensures .0),
+      c .links-in .ensures .1 ∙ ap (λ (z : List ℕ). linksIn z (ownersAt (c .before .before .before .before .before .args .w .now) (c .before .before .before .before .before .args .s .level)) (c .before .before .before .before .before .args .r)) e,
+    )
 
 pub links-to-spec : {M : Type 1} → statement M
 links-to-spec =

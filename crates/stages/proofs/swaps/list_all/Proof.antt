@@ -1,23 +1,17 @@
-use Rattle.links.proofs.PartLaws.{kept-refl, kept-trans, kept-wide}
-use Rattle.stages.proofs.SwapListLaws.{listed-none}
-use Rattle.stages.proofs.ListingLaws.{given-listed, listed-turn, listed-end}
-use Prim.Native.Nat.{ℕ, _+_, _-_, _≤_, _<_}
-use mathlib.Core.Path.{_≡_, refl, sym, ap, _∙_, subst}
-use mathlib.Core.List.{List}
+-- The invariant: each list holds what the vertices below v make of it. Assumes nothing.
+use Prim.Native.Nat.{ℕ, _-_, _≤_, _<_}
+use mathlib.Core.Path.{_≡_, refl, sym, _∙_}
 use native.Mathlib.Omega.{arith}
 use lib.ListN.{length}
 use Rattle.links.specs.Parts.{Kept}
+use Rattle.links.proofs.PartLaws.{kept-refl, kept-trans}
 use Rattle.stages.specs.Level.{rowsAt, ownersAt}
-use Rattle.stages.specs.Swaps.{Candidate}
 use Rattle.stages.specs.MovesCode.{Clear}
 use Rattle.stages.specs.SwapsCode.{listAt}
-use Rattle.stages.proofs.SwapListLaws.{listedTo}
-use borrow.Author.Needs.{needs}
+use Rattle.stages.proofs.SwapListLaws.{listed-none, listedTo}
+use Rattle.stages.proofs.ListingLaws.{given-listed, listed-turn, listed-end}
 use Rattle.stages.proofs.swaps.list_all.Statement.{statement}
 use Rattle.stages.proofs.swaps.list_all.Tie as tie
-use Rattle.stages.proofs.swaps.list_all.Reads as reads
-use Rattle.stages.proofs.swaps.list_all.Lts as lts
-use Rattle.stages.proofs.swaps.list_vertex.Reads as list-vertex-reads
 
 abbrev Inv-loop : tie.InvT-loop
 Inv-loop work₀ s n v₀ work v =
@@ -27,41 +21,41 @@ Inv-loop work₀ s n v₀ work v =
 abbrev μ-loop : tie.MeasureT-loop
 μ-loop work₀ s n v₀ work v = n - v
 
--- src/swaps.rt:137:5
 loop-holds : tie.Need-loop-holds Inv-loop μ-loop
 loop-holds c =
-    let a = c .before .args in
-    (omega arith, refl, kept-refl (a .s .tallies) (length (a .work .now)) (a .work .now), c .before .pre .1,
-    λ x y p q n. c .before .pre .2 x y p q ∙ sym (listed-none 8 (rowsAt (a .work .now) (a .s .level)) (ownersAt (a .work .now) (a .s .level)) x y))
+    let a = c .before .args in (
+      omega arith,
+      refl,
+      kept-refl (a .s .tallies) (length (a .work .now)) (a .work .now),
+      c .before .pre .1,
+      λ x y p q n. c .before .pre .2 x y p q ∙ sym (listed-none 8 (rowsAt (a .work .now) (a .s .level)) (ownersAt (a .work .now) (a .s .level)) x y),
+    )
 
--- src/swaps.rt:138:9
 list-vertex-requires : tie.Need-list-vertex-requires Inv-loop μ-loop
 list-vertex-requires c κs = (given-listed (c .before .before .before .before .pre .0) (c .before .before .loop .inv .2), omega arith, c .before .before .loop .inv .3)
 
--- src/swaps.rt:139:9
 add-v : tie.Need-add-v Inv-loop μ-loop
 add-v c = omega arith
 
--- src/swaps.rt:137:5
 loop-less : tie.Need-loop-less Inv-loop μ-loop
 loop-less c = omega arith
 
--- src/swaps.rt:137:5
 loop-again : tie.Need-loop-again Inv-loop μ-loop
 loop-again c =
     let a = c .before .before .before .before .before .before .before .args in
     let l = c .before .before .before .before .before .loop in
     let d = c .before .before .list-vertex in
-    let k : Kept (a .s .tallies) (length (a .work .now)) (d .last .0) (l .work) = rw (← l .inv .1) (d .ensures .kept) in
-    (omega arith, d .ensures .kept .same-length ∙ l .inv .1,
-    kept-trans (a .s .tallies) (length (a .work .now)) (d .last .0) (l .work) (a .work .now) k (l .inv .2),
-    d .ensures .clear, listed-turn (c .before .before .before .before .before .before .before .pre .0) (l .inv .2) (l .v) (d .last .0) (d .ensures) (l .inv .4))
+    let k : Kept (a .s .tallies) (length (a .work .now)) (d .last .0) (l .work) = rw (← l .inv .1) (d .ensures .kept) in (
+      omega arith,
+      d .ensures .kept .same-length ∙ l .inv .1,
+      kept-trans (a .s .tallies) (length (a .work .now)) (d .last .0) (l .work) (a .work .now) k (l .inv .2),
+      d .ensures .clear,
+      listed-turn (c .before .before .before .before .before .before .before .pre .0) (l .inv .2) (l .v) (d .last .0) (d .ensures) (l .inv .4),
+    )
 
--- src/swaps.rt:131:1
 same-length : tie.Need-same-length Inv-loop μ-loop
 same-length c = c .before .loop .inv .1
 
--- src/swaps.rt:131:1
 returns : tie.Need-returns Inv-loop μ-loop
 returns c =
     let l = c .before .loop in

@@ -1,31 +1,23 @@
+-- The tallies are made, used up, and 0 again. Assumes nothing.
 use Prim.Native.Nat.{ℕ, _+_, _≤_, _<_}
-use mathlib.Core.Path.{_≡_, refl, sym, ap, _∙_}
+use mathlib.Core.Path.{refl, sym, ap, _∙_}
 use mathlib.Core.List.{List}
 use native.Mathlib.Omega.{arith}
 use lib.ListN.{length-set}
 use Rattle.links.specs.Lists.{at}
 use Rattle.stages.proofs.SwapsSliceLaws.{whole, roomed}
 use Rattle.stages.proofs.ListingLaws.{given-kept, owners-same, listed}
-use borrow.Author.Needs.{needs}
 use Rattle.stages.proofs.swaps.list_vertex.Statement.{statement}
 use Rattle.stages.proofs.swaps.list_vertex.Tie as tie
-use Rattle.stages.proofs.swaps.list_vertex.Reads as reads
-use Rattle.stages.proofs.swaps.list_vertex.Lts as lts
-use Rattle.stages.proofs.moves.owner_in.Reads as owner-in-reads
-use Rattle.stages.proofs.moves.tally.Reads as tally-reads
-use Rattle.stages.proofs.swaps.offer_row.Reads as offer-row-reads
 
--- src/swaps.rt:123:9
 owner-in-requires : tie.Need-owner-in-requires
 owner-in-requires c κs = (whole (c .before .before .pre .0), c .before .before .pre .1)
 
--- src/swaps.rt:124:5
 tally-requires : tie.Need-tally-requires
 tally-requires c κs =
     let g = c .before .before .before .before .pre .0 in
     (roomed g (c .before .before .before .before .args .s .tallies) (omega (arith, g .used-in, g .loads-in)) (omega (arith, g .tallies-in, g .lists-in)), c .before .before .before .before .pre .1, c .before .before .before .before .pre .2)
 
--- src/swaps.rt:125:5
 offer-row-requires : tie.Need-offer-row-requires
 offer-row-requires c κs =
     let g = c .before .before .before .before .before .before .before .before .pre .0 in
@@ -33,32 +25,27 @@ offer-row-requires c κs =
     let h : c .before .before .before .before .before .before .before .before .args .s .used ≤ c .before .before .before .before .before .before .before .before .args .s .tallies = omega (arith, g .used-in, g .loads-in) in
     (given-kept g k h, c .before .before .before .before .before .before .before .before .pre .1, c .before .before .before .before .before .owner-in .ensures ∙ ap (λ (z : List ℕ). at z (c .before .before .before .before .before .before .before .before .args .v)) (sym (owners-same g k h)), c .before .before .before .tally .ensures .0)
 
--- src/swaps.rt:127:10
 add-work : tie.Need-add-work
 add-work c =
     let g = c .before .before .before .before .before .before .before .before .before .before .before .pre .0 in
     let r : c .before .before .before .before .before .before .before .before .owner-in .result < c .before .before .before .before .before .before .before .before .before .before .before .args .s .limits .ranks = rw (c .before .before .before .before .before .before .before .before .owner-in .ensures) (g .ranked (c .before .before .before .before .before .before .before .before .before .before .before .args .v) (c .before .before .before .before .before .before .before .before .before .before .before .pre .1)) in
     omega (arith, g .tallies-in, g .lists-in)
 
--- src/swaps.rt:127:5
 mul-work : tie.Need-mul-work
 mul-work c =
     let g = c .before .before .before .before .before .before .before .before .before .before .before .pre .0 in
     let r : c .before .before .before .before .before .before .before .before .owner-in .result < c .before .before .before .before .before .before .before .before .before .before .before .args .s .limits .ranks = rw (c .before .before .before .before .before .before .before .before .owner-in .ensures) (g .ranked (c .before .before .before .before .before .before .before .before .before .before .before .args .v) (c .before .before .before .before .before .before .before .before .before .before .before .pre .1)) in
     omega (arith, g .tallies-in, g .lists-in)
 
--- src/swaps.rt:127:5
 slice-write-work : tie.Need-slice-write-work
 slice-write-work c =
     let g = c .before .before .before .before .before .before .before .before .before .before .before .pre .0 in
     let r : c .before .before .before .before .before .before .before .before .owner-in .result < c .before .before .before .before .before .before .before .before .before .before .before .args .s .limits .ranks = rw (c .before .before .before .before .before .before .before .before .owner-in .ensures) (g .ranked (c .before .before .before .before .before .before .before .before .before .before .before .args .v) (c .before .before .before .before .before .before .before .before .before .before .before .pre .1)) in
     omega (arith, g .tallies-in, g .lists-in, c .before .before .offer-row .ensures .kept .same-length, c .before .before .before .before .before .before .tally .ensures .1 .same-length)
 
--- src/swaps.rt:119:1
 same-length : tie.Need-same-length
 same-length c = length-set (c .before .before .offer-row .last .0) (c .before .before .before .before .before .before .before .before .before .before .before .args .s .tallies + c .before .before .before .before .before .before .before .before .owner-in .result) 0 ∙ c .before .before .offer-row .ensures .kept .same-length ∙ c .before .before .before .before .before .before .tally .ensures .1 .same-length
 
--- src/swaps.rt:119:1
 returns : tie.Need-returns
 returns c =
     listed (c .before .before .before .before .before .before .before .before .before .before .before .pre .0) (c .before .before .before .before .before .before .before .before .before .before .before .pre .1) (c .before .before .before .before .before .before .before .before .owner-in .result) (c .before .before .before .before .before .before .before .before .owner-in .ensures) (c .before .before .before .before .before .before .tally .last .0) (c .before .before .offer-row .last .0)

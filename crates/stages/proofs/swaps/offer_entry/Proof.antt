@@ -1,103 +1,81 @@
-use Prim.Native.Nat.{ℕ, _+_, _*_, _<_}
-use mathlib.Core.Path.{_≡_, _∙_}
+-- Three cases: the owner is rank a, was met before, or is met now. Assumes nothing.
+use Prim.Native.Nat.{_+_, _<_}
+use mathlib.Core.Path.{_∙_}
 use native.Mathlib.Omega.{arith}
 use lib.ListN.{length-set}
+use borrow.Author.Needs.{needs}
 use Rattle.links.specs.Lists.{at}
 use Rattle.stages.specs.Level.{neighborsAt}
 use Rattle.stages.proofs.SwapsSliceLaws.{whole}
 use Rattle.stages.proofs.ListingLaws.{positive, entry-own, entry-met, entry-new}
-use borrow.Author.Needs.{needs}
 use Rattle.stages.proofs.swaps.offer_entry.Statement.{statement}
 use Rattle.stages.proofs.swaps.offer_entry.Tie as tie
-use Rattle.stages.proofs.swaps.offer_entry.Reads as reads
-use Rattle.stages.proofs.swaps.offer_entry.Lts as lts
-use Rattle.stages.proofs.moves.owner_at.Reads as owner-at-reads
-use Rattle.stages.proofs.swaps.list_at.Reads as list-at-reads
-use Rattle.stages.proofs.swaps.offer_part.Reads as offer-part-reads
 
--- src/swaps.rt:89:9
 owner-at-requires : tie.Need-owner-at-requires
 owner-at-requires c κs = (whole (c .before .before .pre .0), c .before .before .pre .2, c .before .before .pre .3)
 
--- src/swaps.rt:91:9
 same-length : tie.Need-same-length
 same-length c = search needs
 
--- src/swaps.rt:91:9
 returns : tie.Need-returns
 returns c = entry-own (c .before .owner-at .result) (c .before .owner-at .ensures) (c .if1 .taken)
 
--- src/swaps.rt:94:22
 add-there : tie.Need-add-there
 add-there c =
     let r : c .before .owner-at .result < c .before .before .before .before .args .s .limits .ranks = rw (c .before .owner-at .ensures) (c .before .before .before .before .pre .0 .ranked (at (neighborsAt (c .before .before .before .before .args .work .now) (c .before .before .before .before .args .s .level)) (c .before .before .before .before .args .i)) (c .before .before .before .before .pre .3)) in
     omega arith
 
--- src/swaps.rt:94:17
 mul-there : tie.Need-mul-there
 mul-there c =
     let r : c .before .owner-at .result < c .before .before .before .before .args .s .limits .ranks = rw (c .before .owner-at .ensures) (c .before .before .before .before .pre .0 .ranked (at (neighborsAt (c .before .before .before .before .args .work .now) (c .before .before .before .before .args .s .level)) (c .before .before .before .before .args .i)) (c .before .before .before .before .pre .3)) in
     omega arith
 
--- src/swaps.rt:94:17
 slice-read-there : tie.Need-slice-read-there
 slice-read-there c =
     let r : c .before .before .owner-at .result < c .before .before .before .before .before .args .s .limits .ranks = rw (c .before .before .owner-at .ensures) (c .before .before .before .before .before .pre .0 .ranked (at (neighborsAt (c .before .before .before .before .before .args .work .now) (c .before .before .before .before .before .args .s .level)) (c .before .before .before .before .before .args .i)) (c .before .before .before .before .before .pre .3)) in
     omega arith
 
--- src/swaps.rt:96:9
 same-length-2 : tie.Need-same-length-2
 same-length-2 c = search needs
 
--- src/swaps.rt:96:9
 returns-2 : tie.Need-returns-2
 returns-2 c = entry-met (c .before .before .before .owner-at .result) (c .before .before .before .owner-at .ensures) (c .before .before .if1 .left) (c .if2 .taken)
 
--- src/swaps.rt:98:21
 add-home : tie.Need-add-home
 add-home c = search needs
 
--- src/swaps.rt:98:16
 mul-home : tie.Need-mul-home
 mul-home c = search needs
 
--- src/swaps.rt:98:16
 slice-read-home : tie.Need-slice-read-home
 slice-read-home c = search needs
 
--- src/swaps.rt:99:10
 add-work : tie.Need-add-work
 add-work c =
     let r : c .before .before .before .before .owner-at .result < c .before .before .before .before .before .before .before .args .s .limits .ranks = rw (c .before .before .before .before .owner-at .ensures) (c .before .before .before .before .before .before .before .pre .0 .ranked (at (neighborsAt (c .before .before .before .before .before .before .before .args .work .now) (c .before .before .before .before .before .before .before .args .s .level)) (c .before .before .before .before .before .before .before .args .i)) (c .before .before .before .before .before .before .before .pre .3)) in
     omega arith
 
--- src/swaps.rt:99:5
 mul-work : tie.Need-mul-work
 mul-work c =
     let r : c .before .before .before .before .owner-at .result < c .before .before .before .before .before .before .before .args .s .limits .ranks = rw (c .before .before .before .before .owner-at .ensures) (c .before .before .before .before .before .before .before .pre .0 .ranked (at (neighborsAt (c .before .before .before .before .before .before .before .args .work .now) (c .before .before .before .before .before .before .before .args .s .level)) (c .before .before .before .before .before .before .before .args .i)) (c .before .before .before .before .before .before .before .pre .3)) in
     omega arith
 
--- src/swaps.rt:99:5
 slice-write-work : tie.Need-slice-write-work
 slice-write-work c =
     let r : c .before .before .before .before .owner-at .result < c .before .before .before .before .before .before .before .args .s .limits .ranks = rw (c .before .before .before .before .owner-at .ensures) (c .before .before .before .before .before .before .before .pre .0 .ranked (at (neighborsAt (c .before .before .before .before .before .before .before .args .work .now) (c .before .before .before .before .before .before .before .args .s .level)) (c .before .before .before .before .before .before .before .args .i)) (c .before .before .before .before .before .before .before .pre .3)) in
     omega arith
 
--- src/swaps.rt:100:22
 list-at-requires : tie.Need-list-at-requires
 list-at-requires c κs =
     let r : c .before .before .before .before .before .owner-at .result < c .before .before .before .before .before .before .before .before .args .s .limits .ranks = rw (c .before .before .before .before .before .owner-at .ensures) (c .before .before .before .before .before .before .before .before .pre .0 .ranked (at (neighborsAt (c .before .before .before .before .before .before .before .before .args .work .now) (c .before .before .before .before .before .before .before .before .args .s .level)) (c .before .before .before .before .before .before .before .before .args .i)) (c .before .before .before .before .before .before .before .before .pre .3)) in
     (c .before .before .before .before .before .before .before .before .pre .1, r, omega (arith, c .before .before .before .before .before .before .before .before .pre .0 .lists-in))
 
--- src/swaps.rt:100:5
 offer-part-requires : tie.Need-offer-part-requires
 offer-part-requires c κs = (simp length-set (omega (arith, c .list-at .ensures .1)), positive _ (c .before .before .before .if2 .left))
 
--- src/swaps.rt:85:1
 same-length-3 : tie.Need-same-length-3
 same-length-3 c = c .before .before .offer-part .ensures .kept .same-length ∙ length-set (c .before .before .before .before .before .before .before .before .before .before .before .before .args .work .now) (c .before .before .before .before .before .before .before .before .before .before .before .before .args .s .tallies + c .before .before .before .before .before .before .before .before .before .owner-at .result) 0
 
--- src/swaps.rt:85:1
 returns-3 : tie.Need-returns-3
 returns-3 c =
     let a = c .before .before .before .before .before .before .before .before .before .before .before .before .args in

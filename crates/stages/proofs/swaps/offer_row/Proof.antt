@@ -1,20 +1,17 @@
+-- The invariant: each other rank is still to be met among the entries from i on, or v was offered to it. Assumes nothing.
+use Prim.Native.Nat.{ℕ, _+_, _-_, _≤_}
+use mathlib.Core.Path.{_≡_, refl, _∙_, subst}
+use native.Mathlib.Omega.{arith}
+use lib.ListN.{length}
+use borrow.Author.Needs.{needs}
+use Rattle.links.specs.Lists.{at}
+use Rattle.stages.specs.Level.{offsetsAt}
+use Rattle.stages.specs.SwapsCode.{Offering}
 use Rattle.stages.proofs.MovesSliceLaws.{neighbors-kept, row-rises, row-ends, entry-below}
 use Rattle.stages.proofs.SwapsSliceLaws.{whole}
 use Rattle.stages.proofs.ListingLaws.{given-kept, offering-start}
-use Prim.Native.Nat.{ℕ, _+_, _-_, _≤_, _<_}
-use mathlib.Core.Path.{_≡_, refl, sym, ap, _∙_, subst}
-use native.Mathlib.Omega.{arith}
-use lib.ListN.{length}
-use Rattle.links.specs.Lists.{at}
-use Rattle.stages.specs.Level.{offsetsAt, neighborsAt, ownersAt}
-use Rattle.stages.specs.SwapsCode.{Offering}
-use borrow.Author.Needs.{needs}
 use Rattle.stages.proofs.swaps.offer_row.Statement.{statement}
 use Rattle.stages.proofs.swaps.offer_row.Tie as tie
-use Rattle.stages.proofs.swaps.offer_row.Reads as reads
-use Rattle.stages.proofs.swaps.offer_row.Lts as lts
-use Rattle.stages.proofs.moves.row_start.Reads as row-start-reads
-use Rattle.stages.proofs.swaps.offer_entry.Reads as offer-entry-reads
 
 abbrev Inv-loop : tie.InvT-loop
 Inv-loop work₀ s a v end i₀ work i = (i₀ ≤ i) × (i ≤ end) × (length work ≡ length work₀) × Offering work₀ work s a v i end
@@ -22,68 +19,64 @@ Inv-loop work₀ s a v end i₀ work i = (i₀ ≤ i) × (i ≤ end) × (length 
 abbrev μ-loop : tie.MeasureT-loop
 μ-loop work₀ s a v end i₀ work i = end - i
 
--- src/swaps.rt:110:45
 add-row-start : tie.Need-add-row-start Inv-loop μ-loop
 add-row-start c = search needs
 
--- src/swaps.rt:110:9
 row-start-requires : tie.Need-row-start-requires Inv-loop μ-loop
 row-start-requires c κs = (whole (c .before .before .pre .0), omega arith)
 
--- src/swaps.rt:111:9
 row-start-requires-2 : tie.Need-row-start-requires-2 Inv-loop μ-loop
 row-start-requires-2 c κs = (whole (c .before .before .before .before .pre .0), omega arith)
 
--- src/swaps.rt:112:5
 loop-holds : tie.Need-loop-holds Inv-loop μ-loop
 loop-holds c =
     let a = c .before .before .before .before .before .args in
-    let p = c .before .before .before .before .before .pre in
-    (omega arith, omega (arith, row-rises (p .0 .ready) (a .v) (p .1), c .row-start2 .ensures, c .before .before .row-start .ensures), refl,
-    rw (c .row-start2 .ensures, c .before .before .row-start .ensures) (offering-start (p .0) (p .1) (p .2) (p .3)))
+    let p = c .before .before .before .before .before .pre in (
+      omega arith,
+      omega (arith, row-rises (p .0 .ready) (a .v) (p .1), c .row-start2 .ensures, c .before .before .row-start .ensures),
+      refl,
+      rw (c .row-start2 .ensures, c .before .before .row-start .ensures) (offering-start (p .0) (p .1) (p .2) (p .3)),
+    )
 
--- src/swaps.rt:113:33
 cast-offer-entry : tie.Need-cast-offer-entry Inv-loop μ-loop
 cast-offer-entry c = search needs
 
--- src/swaps.rt:113:9
 offer-entry-requires : tie.Need-offer-entry-requires Inv-loop μ-loop
 offer-entry-requires c κs =
     let a = c .before .before .before .before .before .before .before .before .args in
     let p = c .before .before .before .before .before .before .before .before .pre in
     let l = c .before .before .loop in
     let k = l .inv .3 .kept in
-    let b = row-ends (p .0 .ready) (a .v) (p .1) in
-    (given-kept (p .0) k (omega (arith, p .0 .used-in, p .0 .loads-in)),
-    rw (p .2) (p .0 .ranked (a .v) (p .1)),
-    omega (arith, c .before .before .before .before .before .row-start .ensures),
-    rw (neighbors-kept (p .0 .ready) k (omega (arith, p .0 .used-in, p .0 .loads-in, p .0 .ready .laid .owners-in)))
-    (entry-below (p .0 .ready) (a .v) (p .1) (l .i) (omega (arith, c .before .before .before .row-start2 .ensures)) (omega (arith, c .before .before .before .before .before .row-start .ensures))))
+    let b = row-ends (p .0 .ready) (a .v) (p .1) in (
+      given-kept (p .0) k (omega (arith, p .0 .used-in, p .0 .loads-in)),
+      rw (p .2) (p .0 .ranked (a .v) (p .1)),
+      omega (arith, c .before .before .before .before .before .row-start .ensures),
+      rw (neighbors-kept (p .0 .ready) k (omega (arith, p .0 .used-in, p .0 .loads-in, p .0 .ready .laid .owners-in)))
+          (entry-below (p .0 .ready) (a .v) (p .1) (l .i) (omega (arith, c .before .before .before .row-start2 .ensures)) (omega (arith, c .before .before .before .before .before .row-start .ensures))),
+    )
 
--- src/swaps.rt:114:9
 add-i : tie.Need-add-i Inv-loop μ-loop
 add-i c = search needs
 
--- src/swaps.rt:112:5
 loop-less : tie.Need-loop-less Inv-loop μ-loop
 loop-less c = omega arith
 
--- src/swaps.rt:112:5
 loop-again : tie.Need-loop-again Inv-loop μ-loop
 loop-again c =
     let a = c .before .before .before .before .before .before .before .before .before .before .before .args in
     let p = c .before .before .before .before .before .before .before .before .before .before .before .pre in
     let l = c .before .before .before .before .before .loop in
     let e = c .before .before .before .before .before .before .before .before .row-start .ensures in
-    let o : Offering (a .work .now) (l .work) (a .s) (a .a) (a .v) (l .i) (at (offsetsAt (a .work .now) (a .s .level)) (a .v + 1)) = rw e at (l .inv .3) in
-    (omega arith, omega arith, c .before .before .offer-entry .ensures .kept .same-length ∙ l .inv .2,
-    rw e (c .before .before .offer-entry .ensures .turn (a .work .now) (p .0) (p .1) (p .2) (omega (arith, e)) o))
+    let o : Offering (a .work .now) (l .work) (a .s) (a .a) (a .v) (l .i) (at (offsetsAt (a .work .now) (a .s .level)) (a .v + 1)) = rw e at (l .inv .3) in (
+      omega arith,
+      omega arith,
+      c .before .before .offer-entry .ensures .kept .same-length ∙ l .inv .2,
+      rw e (c .before .before .offer-entry .ensures .turn (a .work .now) (p .0) (p .1) (p .2) (omega (arith, e)) o),
+    )
 
--- src/swaps.rt:104:1
 same-length : tie.Need-same-length Inv-loop μ-loop
 same-length c = c .before .loop .inv .2
 
--- src/swaps.rt:104:1
 returns : tie.Need-returns Inv-loop μ-loop
 returns c =
     let a = c .before .before .before .before .before .before .before .args in

@@ -1,77 +1,60 @@
+-- The net is above 0 exactly where home is below there. Assumes nothing.
 use Prim.Native.Nat.{ℕ}
 use mathlib.Core.Path.{_≡_, sym, ap, _∙_}
 use native.Mathlib.Omega.{arith}
-use lib.ListN.{length}
+use borrow.Author.Needs.{needs}
 use Rattle.stages.specs.Moves.{linked}
 use Rattle.stages.specs.Level.{rowsAt}
 use Rattle.stages.specs.Slots.{proposal, slots}
 use Rattle.stages.specs.SwapsCode.{candidateOf}
 use Rattle.stages.proofs.SwapListLaws.{propose-yes, propose-no}
-use borrow.Author.Needs.{needs}
 use Rattle.stages.proofs.swaps.propose.Statement.{statement}
 use Rattle.stages.proofs.swaps.propose.Tie as tie
-use Rattle.stages.proofs.swaps.propose.Reads as reads
-use Rattle.stages.proofs.swaps.propose.Lts as lts
-use Rattle.links.proofs.index.Reads as index-reads
-use Rattle.stages.proofs.slots.add.Reads as add-reads
-use Rattle.stages.proofs.swaps.linked.Reads as linked-reads
 
--- src/swaps.rt:81:17
 add-there : tie.Need-add-there
 add-there c = search needs
 
--- src/swaps.rt:82:16
 add-home : tie.Need-add-home
 add-home c = search needs
 
--- src/swaps.rt:82:51
 index-requires : tie.Need-index-requires
 index-requires c κs = search needs
 
--- src/swaps.rt:82:61
 index-requires-2 : tie.Need-index-requires-2
 index-requires-2 c κs = search needs
 
--- src/swaps.rt:82:38
 linked-requires : tie.Need-linked-requires
 linked-requires c κs = search needs
 
--- src/swaps.rt:82:34
 mul-home : tie.Need-mul-home
 mul-home c = search needs
 
--- src/swaps.rt:82:16
 add-home-2 : tie.Need-add-home-2
 add-home-2 c = search needs
 
--- src/swaps.rt:84:25
 sub-add : tie.Need-sub-add
 sub-add c = search needs
 
--- src/swaps.rt:84:9
 add-requires : tie.Need-add-requires
 add-requires c κs = search needs
 
--- src/swaps.rt:74:1
 same-length : tie.Need-same-length
 same-length c = search needs
 
--- src/swaps.rt:74:1
 returns : tie.Need-returns
 returns c =
     let a = c .before .before .before .before .before .before .before .before .before .before .before .before .before .before .args in
     let rows = rowsAt (a .w .now) (a .s .level) in
     let e : c .before .before .before .before .before .linked .result ≡ linked rows (a .x .vertex) (a .y .vertex) =
-        c .before .before .before .before .before .linked .ensures .1 ∙ ap (λ (i : ℕ). linked rows i (c .before .before .before .before .before .before .index2 .result)) (c .before .before .before .before .before .before .before .index .ensures) ∙ ap (linked rows (a .x .vertex)) (c .before .before .before .before .before .before .index2 .ensures) in
+    c .before .before .before .before .before .linked .ensures .1 ∙ ap (λ (i : ℕ). linked rows i (c .before .before .before .before .before .before .index2 .result)) (c .before .before .before .before .before .before .before .index .ensures) ∙ ap (linked rows (a .x .vertex)) (c .before .before .before .before .before .before .index2 .ensures) in
     c .before .before .add .ensures ∙ sym (propose-yes rows (candidateOf (a .x)) (candidateOf (a .y)) (a .room) (c .before .before .before .before .before .linked .result) e (slots proposal (a .room) (a .list .now)) (omega (arith, c .before .before .before .before .if1 .taken)))
 
--- src/swaps.rt:74:1
 returns-2 : tie.Need-returns-2
 returns-2 c =
     let a = c .before .before .before .before .before .before .before .before .before .before .args in
     let rows = rowsAt (a .w .now) (a .s .level) in
     let e : c .before .linked .result ≡ linked rows (a .x .vertex) (a .y .vertex) =
-        c .before .linked .ensures .1 ∙ ap (λ (i : ℕ). linked rows i (c .before .before .index2 .result)) (c .before .before .before .index .ensures) ∙ ap (linked rows (a .x .vertex)) (c .before .before .index2 .ensures) in
+    c .before .linked .ensures .1 ∙ ap (λ (i : ℕ). linked rows i (c .before .before .index2 .result)) (c .before .before .before .index .ensures) ∙ ap (linked rows (a .x .vertex)) (c .before .before .index2 .ensures) in
     sym (propose-no rows (candidateOf (a .x)) (candidateOf (a .y)) (a .room) (c .before .linked .result) e (slots proposal (a .room) (a .list .now)) (omega (arith, c .if1 .left)))
 
 pub propose-spec : {M : Type 1} → statement M

@@ -1,21 +1,16 @@
-use Prim.Native.Nat.{_+_, _-_, _*_, _≤_, _<_}
-use mathlib.Core.Path.{_≡_, refl, sym, ap, _∙_, subst}
-use mathlib.Core.List.{List}
+-- The invariant: what the slots from i on make of the proposals so far is what all make of the first ones. Assumes nothing.
+use Prim.Native.Nat.{_-_, _*_, _≤_}
+use mathlib.Core.Path.{_≡_, sym, ap, _∙_, subst}
 use native.Mathlib.Omega.{arith}
 use lib.ListN.{length}
 use Rattle.links.specs.Lists.{at, foldl}
 use Rattle.stages.specs.Level.{rowsAt}
-use Rattle.stages.specs.Swaps.{Candidate, Proposal}
+use Rattle.stages.specs.Swaps.{Candidate}
 use Rattle.stages.specs.Slots.{candidate, proposal, slots}
-use Rattle.stages.specs.SwapsCode.{candidateOf, Fair, proposed}
+use Rattle.stages.specs.SwapsCode.{Fair, proposed}
 use Rattle.stages.proofs.SlotLaws.{Walk, walk-start, walk-end, walk-stop, walk-here, walk-turn}
-use borrow.Author.Needs.{needs}
 use Rattle.stages.proofs.swaps.propose_all.Statement.{statement}
 use Rattle.stages.proofs.swaps.propose_all.Tie as tie
-use Rattle.stages.proofs.swaps.propose_all.Reads as reads
-use Rattle.stages.proofs.swaps.propose_all.Lts as lts
-use Rattle.stages.proofs.slots.member_at.Reads as member-at-reads
-use Rattle.stages.proofs.swaps.propose_row.Reads as propose-row-reads
 
 abbrev Inv-loop : tie.InvT-loop
 Inv-loop list₀ room w s fore back n i₀ list i =
@@ -26,54 +21,49 @@ Inv-loop list₀ room w s fore back n i₀ list i =
 abbrev μ-loop : tie.MeasureT-loop
 μ-loop list₀ room w s fore back n i₀ list i = n - i
 
--- src/swaps.rt:117:5
 loop-holds : tie.Need-loop-holds Inv-loop μ-loop
 loop-holds c = (omega arith, omega arith, walk-start (c .before .before .before .before .pre .3))
 
--- src/swaps.rt:118:13
 member-at-requires : tie.Need-member-at-requires Inv-loop μ-loop
 member-at-requires c κs = omega arith
 
--- src/swaps.rt:120:13
 same-length : tie.Need-same-length Inv-loop μ-loop
 same-length c = omega arith
 
--- src/swaps.rt:120:13
 returns : tie.Need-returns Inv-loop μ-loop
 returns c = walk-stop (c .before .before .before .before .loop .inv .2) (omega arith) (sym (ap (λ (z : Candidate). z .there) (c .before .before .member-at .ensures)) ∙ c .if1 .taken)
 
--- src/swaps.rt:122:9
 propose-row-requires : tie.Need-propose-row-requires Inv-loop μ-loop
 propose-row-requires c κs =
-    let d : at (c .before .before .before .before .before .before .before .before .before .before .args .fore .now) (3 * c .before .before .before .before .before .loop .i) ≡ 0 → ⊥ = λ q. c .before .if1 .left (ap (λ (z : Candidate). z .there) (c .before .before .before .member-at .ensures) ∙ q) in
-    (c .before .before .before .before .before .before .before .before .before .before .pre .0, c .before .before .before .before .before .loop .inv .1,
-    subst (Fair (c .before .before .before .before .before .before .before .before .before .before .args .s .level .vertices)) (sym (c .before .before .before .member-at .ensures)) (walk-here (c .before .before .before .before .before .loop .inv .2) (omega arith) d),
-    c .before .before .before .before .before .before .before .before .before .before .pre .4, c .before .before .before .before .before .before .before .before .before .before .pre .5)
+    let d : at (c .before .before .before .before .before .before .before .before .before .before .args .fore .now) (3 * c .before .before .before .before .before .loop .i) ≡ 0 → ⊥ = λ q. c .before .if1 .left (ap (λ (z : Candidate). z .there) (c .before .before .before .member-at .ensures) ∙ q) in (
+      c .before .before .before .before .before .before .before .before .before .before .pre .0,
+      c .before .before .before .before .before .loop .inv .1,
+      subst (Fair (c .before .before .before .before .before .before .before .before .before .before .args .s .level .vertices)) (sym (c .before .before .before .member-at .ensures)) (walk-here (c .before .before .before .before .before .loop .inv .2) (omega arith) d),
+      c .before .before .before .before .before .before .before .before .before .before .pre .4,
+      c .before .before .before .before .before .before .before .before .before .before .pre .5,
+    )
 
--- src/swaps.rt:123:9
 add-i : tie.Need-add-i Inv-loop μ-loop
 add-i c = omega arith
 
--- src/swaps.rt:117:5
 loop-less : tie.Need-loop-less Inv-loop μ-loop
 loop-less c = omega arith
 
--- src/swaps.rt:117:5
 loop-again : tie.Need-loop-again Inv-loop μ-loop
 loop-again c =
     let a = c .before .before .before .before .before .before .before .before .before .before .before .before .before .args in
     let l = c .before .before .before .before .before .before .before .before .loop in
-    let d : at (a .fore .now) (3 * l .i) ≡ 0 → ⊥ = λ q. c .before .before .before .before .if1 .left (ap (λ (z : Candidate). z .there) (c .before .before .before .before .before .before .member-at .ensures) ∙ q) in
-    (omega arith, omega (arith, c .before .before .propose-row .kept),
-    walk-turn (l .inv .2) (omega arith) d (slots proposal (a .room) (c .before .before .propose-row .last .0))
-    (c .before .before .propose-row .ensures
-    ∙ ap (λ (x : Candidate). foldl (proposed (a .room) (rowsAt (a .w .now) (a .s .level)) x) (slots proposal (a .room) (l .list)) (slots candidate (a .n) (a .back .now))) (c .before .before .before .before .before .before .member-at .ensures)))
+    let d : at (a .fore .now) (3 * l .i) ≡ 0 → ⊥ = λ q. c .before .before .before .before .if1 .left (ap (λ (z : Candidate). z .there) (c .before .before .before .before .before .before .member-at .ensures) ∙ q) in (
+      omega arith,
+      omega (arith, c .before .before .propose-row .kept),
+      walk-turn (l .inv .2) (omega arith) d (slots proposal (a .room) (c .before .before .propose-row .last .0))
+          (c .before .before .propose-row .ensures
+          ∙ ap (λ (x : Candidate). foldl (proposed (a .room) (rowsAt (a .w .now) (a .s .level)) x) (slots proposal (a .room) (l .list)) (slots candidate (a .n) (a .back .now))) (c .before .before .before .before .before .before .member-at .ensures)),
+    )
 
--- src/swaps.rt:108:1
 same-length-2 : tie.Need-same-length-2 Inv-loop μ-loop
 same-length-2 c = omega arith
 
--- src/swaps.rt:108:1
 returns-2 : tie.Need-returns-2 Inv-loop μ-loop
 returns-2 c = walk-end (c .before .loop .inv .2) (omega arith)
 

@@ -1,22 +1,16 @@
-use mathlib.Core.Path.{subst}
-use Prim.Native.Nat.{_+_, _-_, _*_, _≤_, _<_}
-use mathlib.Core.Path.{_≡_, refl, sym, ap, _∙_}
-use mathlib.Core.List.{List}
+-- The invariant: what the slots from j on make of the proposals so far is what all make of the first ones. Assumes nothing.
+use Prim.Native.Nat.{_-_, _*_, _≤_}
+use mathlib.Core.Path.{subst, _≡_, sym, ap, _∙_}
 use native.Mathlib.Omega.{arith}
 use lib.ListN.{length}
 use Rattle.links.specs.Lists.{at}
 use Rattle.stages.specs.Level.{rowsAt}
-use Rattle.stages.specs.Swaps.{Candidate, Proposal}
+use Rattle.stages.specs.Swaps.{Candidate}
 use Rattle.stages.specs.Slots.{candidate, proposal, slots}
 use Rattle.stages.specs.SwapsCode.{candidateOf, Fair, proposed}
 use Rattle.stages.proofs.SlotLaws.{Walk, walk-start, walk-end, walk-stop, walk-here, walk-turn}
-use borrow.Author.Needs.{needs}
 use Rattle.stages.proofs.swaps.propose_row.Statement.{statement}
 use Rattle.stages.proofs.swaps.propose_row.Tie as tie
-use Rattle.stages.proofs.swaps.propose_row.Reads as reads
-use Rattle.stages.proofs.swaps.propose_row.Lts as lts
-use Rattle.stages.proofs.slots.member_at.Reads as member-at-reads
-use Rattle.stages.proofs.swaps.propose.Reads as propose-reads
 
 abbrev Inv-loop : tie.InvT-loop
 Inv-loop list₀ room w s x back n j₀ list j =
@@ -27,52 +21,47 @@ Inv-loop list₀ room w s x back n j₀ list j =
 abbrev μ-loop : tie.MeasureT-loop
 μ-loop list₀ room w s x back n j₀ list j = n - j
 
--- src/swaps.rt:97:5
 loop-holds : tie.Need-loop-holds Inv-loop μ-loop
 loop-holds c = (omega arith, omega arith, walk-start (c .before .before .before .pre .4))
 
--- src/swaps.rt:98:13
 member-at-requires : tie.Need-member-at-requires Inv-loop μ-loop
 member-at-requires c κs = omega arith
 
--- src/swaps.rt:100:13
 same-length : tie.Need-same-length Inv-loop μ-loop
 same-length c = omega arith
 
--- src/swaps.rt:100:13
 returns : tie.Need-returns Inv-loop μ-loop
 returns c = walk-stop (c .before .before .before .before .loop .inv .2) (omega arith) (sym (ap (λ (z : Candidate). z .there) (c .before .before .member-at .ensures)) ∙ c .if1 .taken)
 
--- src/swaps.rt:102:9
 propose-requires : tie.Need-propose-requires Inv-loop μ-loop
 propose-requires c κs =
-    let d : at (c .before .before .before .before .before .before .before .before .before .args .back .now) (3 * c .before .before .before .before .before .loop .j) ≡ 0 → ⊥ = λ q. c .before .if1 .left (ap (λ (z : Candidate). z .there) (c .before .before .before .member-at .ensures) ∙ q) in
-    (c .before .before .before .before .before .before .before .before .before .pre .0, c .before .before .before .before .before .loop .inv .1, c .before .before .before .before .before .before .before .before .before .pre .2,
-    subst (Fair (c .before .before .before .before .before .before .before .before .before .args .s .level .vertices)) (sym (c .before .before .before .member-at .ensures)) (walk-here (c .before .before .before .before .before .loop .inv .2) (omega arith) d))
+    let d : at (c .before .before .before .before .before .before .before .before .before .args .back .now) (3 * c .before .before .before .before .before .loop .j) ≡ 0 → ⊥ = λ q. c .before .if1 .left (ap (λ (z : Candidate). z .there) (c .before .before .before .member-at .ensures) ∙ q) in (
+      c .before .before .before .before .before .before .before .before .before .pre .0,
+      c .before .before .before .before .before .loop .inv .1,
+      c .before .before .before .before .before .before .before .before .before .pre .2,
+      subst (Fair (c .before .before .before .before .before .before .before .before .before .args .s .level .vertices)) (sym (c .before .before .before .member-at .ensures)) (walk-here (c .before .before .before .before .before .loop .inv .2) (omega arith) d),
+    )
 
--- src/swaps.rt:103:9
 add-j : tie.Need-add-j Inv-loop μ-loop
 add-j c = omega arith
 
--- src/swaps.rt:97:5
 loop-less : tie.Need-loop-less Inv-loop μ-loop
 loop-less c = omega arith
 
--- src/swaps.rt:97:5
 loop-again : tie.Need-loop-again Inv-loop μ-loop
 loop-again c =
     let a = c .before .before .before .before .before .before .before .before .before .before .before .before .args in
     let l = c .before .before .before .before .before .before .before .before .loop in
-    let d : at (a .back .now) (3 * l .j) ≡ 0 → ⊥ = λ q. c .before .before .before .before .if1 .left (ap (λ (z : Candidate). z .there) (c .before .before .before .before .before .before .member-at .ensures) ∙ q) in
-    (omega arith, omega (arith, c .before .before .propose .kept),
-    walk-turn (l .inv .2) (omega arith) d (slots proposal (a .room) (c .before .before .propose .last .0))
-    (c .before .before .propose .ensures ∙ ap (proposed (a .room) (rowsAt (a .w .now) (a .s .level)) (candidateOf (a .x)) (slots proposal (a .room) (l .list))) (c .before .before .before .before .before .before .member-at .ensures)))
+    let d : at (a .back .now) (3 * l .j) ≡ 0 → ⊥ = λ q. c .before .before .before .before .if1 .left (ap (λ (z : Candidate). z .there) (c .before .before .before .before .before .before .member-at .ensures) ∙ q) in (
+      omega arith,
+      omega (arith, c .before .before .propose .kept),
+      walk-turn (l .inv .2) (omega arith) d (slots proposal (a .room) (c .before .before .propose .last .0))
+          (c .before .before .propose .ensures ∙ ap (proposed (a .room) (rowsAt (a .w .now) (a .s .level)) (candidateOf (a .x)) (slots proposal (a .room) (l .list))) (c .before .before .before .before .before .before .member-at .ensures)),
+    )
 
--- src/swaps.rt:89:1
 same-length-2 : tie.Need-same-length-2 Inv-loop μ-loop
 same-length-2 c = omega arith
 
--- src/swaps.rt:89:1
 returns-2 : tie.Need-returns-2 Inv-loop μ-loop
 returns-2 c = walk-end (c .before .loop .inv .2) (omega arith)
 

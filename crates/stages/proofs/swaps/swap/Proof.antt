@@ -1,36 +1,25 @@
+-- The owners and the flags change, then the loads. Assumes nothing.
+use borrow.Author.Needs.{needs}
 use Rattle.stages.proofs.SwapsSliceLaws.{whole}
 use Rattle.stages.proofs.SwapStepLaws.{tradable, swapped}
-use borrow.Author.Needs.{needs}
 use Rattle.stages.proofs.swaps.swap.Statement.{statement}
 use Rattle.stages.proofs.swaps.swap.Tie as tie
-use Rattle.stages.proofs.swaps.swap.Reads as reads
-use Rattle.stages.proofs.swaps.swap.Lts as lts
-use Rattle.stages.proofs.moves.owner_in.Reads as owner-in-reads
-use Rattle.stages.proofs.moves.weight_in.Reads as weight-in-reads
-use Rattle.stages.proofs.swaps.change.Reads as change-reads
-use Rattle.stages.proofs.swaps.trade.Reads as trade-reads
 
--- src/swaps.rt:236:9
 owner-in-requires : tie.Need-owner-in-requires
 owner-in-requires c κs = (whole (c .before .before .pre .0 .given), c .before .before .pre .1)
 
--- src/swaps.rt:237:9
 owner-in-requires-2 : tie.Need-owner-in-requires-2
 owner-in-requires-2 c κs = (whole (c .before .before .before .before .pre .0 .given), c .before .before .before .before .pre .2)
 
--- src/swaps.rt:238:9
 weight-in-requires : tie.Need-weight-in-requires
 weight-in-requires c κs = (whole (c .before .before .before .before .before .before .pre .0 .given), c .before .before .before .before .before .before .pre .1)
 
--- src/swaps.rt:239:9
 weight-in-requires-2 : tie.Need-weight-in-requires-2
 weight-in-requires-2 c κs = (whole (c .before .before .before .before .before .before .before .before .pre .0 .given), c .before .before .before .before .before .before .before .before .pre .2)
 
--- src/swaps.rt:240:5
 change-requires : tie.Need-change-requires
 change-requires c κs = search needs
 
--- src/swaps.rt:241:5
 trade-requires : tie.Need-trade-requires
 trade-requires c κs =
     let p = c .before .before .before .before .before .before .before .before .before .before .before .before .before .before .pre in
@@ -38,11 +27,9 @@ trade-requires c κs =
     tradable (p .0) (a .u) (a .v) (p .1) (p .2) (c .before .before .before .before .before .before .before .before .before .before .before .owner-in .result) (c .before .before .before .before .before .before .before .before .before .owner-in2 .result) (c .before .before .before .before .before .before .before .weight-in .result) (c .before .before .before .before .before .weight-in2 .result)
     (c .before .before .before .before .before .before .before .before .before .before .before .owner-in .ensures) (c .before .before .before .before .before .before .before .before .before .owner-in2 .ensures) (c .before .before .before .before .before .before .before .weight-in .ensures) (c .before .before .before .before .before .weight-in2 .ensures) (c .before .before .before .change .last .0) (c .before .before .before .change .ensures)
 
--- src/swaps.rt:232:1
 same-length : tie.Need-same-length
 same-length c = search needs
 
--- src/swaps.rt:232:1
 returns : tie.Need-returns
 returns c =
     let p = c .before .before .before .before .before .before .before .before .before .before .before .before .before .before .before .before .before .pre in

@@ -1,87 +1,65 @@
+-- The sums are those of the definition. Assumes nothing.
 use Prim.Native.Nat.{_+_}
 use mathlib.Core.Path.{sym}
+use borrow.Author.Needs.{needs}
 use Rattle.links.specs.Lists.{at}
 use Rattle.stages.specs.Level.{rowsAt, ownersAt}
 use Rattle.stages.proofs.SwapsSliceLaws.{owner-is}
 use Rattle.stages.proofs.SwapListLaws.{gain-of}
-use borrow.Author.Needs.{needs}
 use Rattle.stages.proofs.swaps.swap_gain.Statement.{statement}
 use Rattle.stages.proofs.swaps.swap_gain.Tie as tie
-use Rattle.stages.proofs.swaps.swap_gain.Reads as reads
-use Rattle.stages.proofs.swaps.swap_gain.Lts as lts
-use Rattle.stages.proofs.swaps.less.Reads as less-reads
-use Rattle.stages.proofs.swaps.linked.Reads as linked-reads
-use Rattle.stages.proofs.swaps.links_to.Reads as links-to-reads
 
--- src/swaps.rt:171:15
 add-a : tie.Need-add-a
 add-a c = search needs
 
--- src/swaps.rt:171:13
 mul-a : tie.Need-mul-a
 mul-a c = search needs
 
--- src/swaps.rt:171:13
 shared-slice-read-a : tie.Need-shared-slice-read-a
 shared-slice-read-a c = search needs
 
--- src/swaps.rt:172:15
 add-b : tie.Need-add-b
 add-b c = search needs
 
--- src/swaps.rt:172:13
 mul-b : tie.Need-mul-b
 mul-b c = search needs
 
--- src/swaps.rt:172:13
 shared-slice-read-b : tie.Need-shared-slice-read-b
 shared-slice-read-b c = search needs
 
--- src/swaps.rt:173:18
 links-to-requires : tie.Need-links-to-requires
 links-to-requires c κs = search needs
 
--- src/swaps.rt:173:40
 linked-requires : tie.Need-linked-requires
 linked-requires c κs = search needs
 
--- src/swaps.rt:173:9
 less-requires : tie.Need-less-requires
 less-requires c κs = search needs
 
--- src/swaps.rt:174:18
 links-to-requires-2 : tie.Need-links-to-requires-2
 links-to-requires-2 c κs = search needs
 
--- src/swaps.rt:174:40
 linked-requires-2 : tie.Need-linked-requires-2
 linked-requires-2 c κs = search needs
 
--- src/swaps.rt:174:9
 less-requires-2 : tie.Need-less-requires-2
 less-requires-2 c κs = search needs
 
--- src/swaps.rt:175:16
 links-to-requires-3 : tie.Need-links-to-requires-3
 links-to-requires-3 c κs = search needs
 
--- src/swaps.rt:175:39
 links-to-requires-4 : tie.Need-links-to-requires-4
 links-to-requires-4 c κs = search needs
 
--- src/swaps.rt:175:16
 add-home : tie.Need-add-home
 add-home c = search needs
 
--- src/swaps.rt:176:10
 add-less : tie.Need-add-less
 add-less c = search needs
 
--- src/swaps.rt:176:5
 less-requires-3 : tie.Need-less-requires-3
 less-requires-3 c κs = search needs
 
--- src/swaps.rt:166:1
 returns : tie.Need-returns
 returns c =
     let a = c .before .before .before .before .before .before .before .before .before .before .before .before .args in

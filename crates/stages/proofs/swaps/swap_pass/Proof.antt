@@ -1,31 +1,22 @@
+-- Flags and lists are cleared, all vertices listed, and the proposals taken. Assumes nothing.
+use borrow.Author.Needs.{needs}
 use Rattle.stages.specs.Level.{ownersAt}
 use Rattle.stages.proofs.SwapPassLaws.{standing₂, clear₂, empty₂, standing₃, pass-made}
-use borrow.Author.Needs.{needs}
 use Rattle.stages.proofs.swaps.swap_pass.Statement.{statement}
 use Rattle.stages.proofs.swaps.swap_pass.Tie as tie
-use Rattle.stages.proofs.swaps.swap_pass.Reads as reads
-use Rattle.stages.proofs.swaps.swap_pass.Lts as lts
-use Rattle.stages.proofs.moves.clear.Reads as clear-reads
-use Rattle.stages.proofs.swaps.list_all.Reads as list-all-reads
-use Rattle.stages.proofs.swaps.swap_ranks.Reads as swap-ranks-reads
 
--- src/swaps.rt:423:5
 clear-requires : tie.Need-clear-requires
 clear-requires c κs = search needs
 
--- src/swaps.rt:424:32
 mul-clear : tie.Need-mul-clear
 mul-clear c = search needs
 
--- src/swaps.rt:424:26
 mul-clear-2 : tie.Need-mul-clear-2
 mul-clear-2 c = search needs
 
--- src/swaps.rt:424:5
 clear-requires-2 : tie.Need-clear-requires-2
 clear-requires-2 c κs = search needs
 
--- src/swaps.rt:425:5
 list-all-requires : tie.Need-list-all-requires
 list-all-requires c κs =
     let p = c .before .before .before .before .before .before .before .before .before .before .pre in
@@ -33,7 +24,6 @@ list-all-requires c κs =
     let b = c .before .before .before .clear2 .ensures in
     (standing₂ (p .0) (p .1) (a .0) (a .1) (b .0) (b .1) .given, clear₂ (p .0) (p .1) (a .0) (a .1) (b .0) (b .1), empty₂ (p .0) (p .1) (a .0) (a .1) (b .0) (b .1))
 
--- src/swaps.rt:426:5
 swap-ranks-requires : tie.Need-swap-ranks-requires
 swap-ranks-requires c κs =
     let p = c .before .before .before .before .before .before .before .before .before .before .before .before .before .before .pre in
@@ -41,11 +31,9 @@ swap-ranks-requires c κs =
     let b = c .before .before .before .before .before .before .before .clear2 .ensures in
     (standing₃ (p .0) (p .1) (a .0) (a .1) (b .0) (b .1) (c .before .before .before .list-all .ensures), (ownersAt (c .before .before .before .before .before .before .before .clear2 .last .0) (c .before .before .before .before .before .before .before .before .before .before .before .before .before .before .args .s .level), c .before .before .before .list-all .ensures .holding))
 
--- src/swaps.rt:418:1
 same-length : tie.Need-same-length
 same-length c = search needs
 
--- src/swaps.rt:418:1
 returns : tie.Need-returns
 returns c =
     let p = c .before .before .before .before .before .before .before .before .before .before .before .before .before .before .before .before .before .pre in

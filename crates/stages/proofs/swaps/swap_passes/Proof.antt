@@ -1,14 +1,10 @@
-use Prim.Native.Nat.{_+_, _-_, _≤_}
-use mathlib.Core.Path.{_≡_, _∙_}
+-- The invariant: what is done and what is left from pass p on make up all swaps. Assumes nothing.
+use Prim.Native.Nat.{_-_, _≤_}
+use mathlib.Core.Path.{_∙_}
 use native.Mathlib.Omega.{arith}
 use Rattle.stages.proofs.SwapPassLaws.{Repeating, repeat-starts, repeat-goes, repeat-stops, repeat-done, total-few}
-use borrow.Author.Needs.{needs}
 use Rattle.stages.proofs.swaps.swap_passes.Statement.{statement}
 use Rattle.stages.proofs.swaps.swap_passes.Tie as tie
-use Rattle.stages.proofs.swaps.swap_passes.Reads as reads
-use Rattle.stages.proofs.swaps.swap_passes.Lts as lts
-use Rattle.links.proofs.wide.Reads as wide-reads
-use Rattle.stages.proofs.swaps.swap_pass.Reads as swap-pass-reads
 
 abbrev Inv-loop : tie.InvT-loop
 Inv-loop work₀ s passes total₀ p₀ work total p = (p ≤ passes) × Repeating work₀ work s passes total p
@@ -16,51 +12,41 @@ Inv-loop work₀ s passes total₀ p₀ work total p = (p ≤ passes) × Repeati
 abbrev μ-loop : tie.MeasureT-loop
 μ-loop work₀ s passes total₀ p₀ work total p = passes - p
 
--- src/swaps.rt:436:5
 loop-holds : tie.Need-loop-holds Inv-loop μ-loop
 loop-holds c = (omega arith, repeat-starts (c .before .pre .0) (c .before .args .passes) (c .before .pre .1))
 
--- src/swaps.rt:437:13
 swap-pass-requires : tie.Need-swap-pass-requires Inv-loop μ-loop
 swap-pass-requires c κs = (c .before .before .loop .inv .1 .standing, c .before .before .loop .inv .1 .clear)
 
--- src/swaps.rt:438:9
 add-p : tie.Need-add-p Inv-loop μ-loop
 add-p c = record { fits = omega (arith, c .before .before .before .before .loop-test .taken, c .before .before .before .before .before .before .before .fits) }
 
--- src/swaps.rt:440:13
 same-length : tie.Need-same-length Inv-loop μ-loop
 same-length c = c .before .before .before .swap-pass .ensures .kept .same-length ∙ c .before .before .before .before .before .before .loop .inv .1 .kept .same-length
 
--- src/swaps.rt:440:13
 returns : tie.Need-returns Inv-loop μ-loop
 returns c = repeat-stops (c .before .before .before .before .before .before .before .before .pre .0) (c .before .before .before .before .before .before .before .before .args .passes) (c .before .before .before .before .before .before .loop .inv .1) (c .before .before .before .before .before .loop-test .taken) (c .before .before .before .swap-pass .ensures) (c .if1 .taken)
 
--- src/swaps.rt:442:25
 wide-requires : tie.Need-wide-requires Inv-loop μ-loop
 wide-requires c κs = tt
 
--- src/swaps.rt:442:17
 add-total : tie.Need-add-total Inv-loop μ-loop
 add-total c =
     let n = repeat-goes (c .before .before .before .before .before .before .before .before .before .pre .0) (c .before .before .before .before .before .before .before .before .before .args .passes) (c .before .before .before .before .before .before .before .loop .inv .1) (c .before .before .before .before .before .before .loop-test .taken) (c .before .before .before .before .swap-pass .ensures) (c .before .if1 .left) in
     record { fits = omega (arith, total-few (c .before .before .before .before .before .before .before .before .before .pre .0) (c .before .before .before .before .before .before .before .before .before .args .passes) n, c .wide .ensures) }
 
--- src/swaps.rt:436:5
 loop-less : tie.Need-loop-less Inv-loop μ-loop
 loop-less c = omega (arith, c .before .before .before .before .before .before .loop-test .taken)
 
--- src/swaps.rt:436:5
 loop-again : tie.Need-loop-again Inv-loop μ-loop
-loop-again c =
-    (omega (arith, c .before .before .before .before .before .before .loop-test .taken),
-    rw (c .wide .ensures) (repeat-goes (c .before .before .before .before .before .before .before .before .before .pre .0) (c .before .before .before .before .before .before .before .before .before .args .passes) (c .before .before .before .before .before .before .before .loop .inv .1) (c .before .before .before .before .before .before .loop-test .taken) (c .before .before .before .before .swap-pass .ensures) (c .before .if1 .left)))
+loop-again c = (
+  omega (arith, c .before .before .before .before .before .before .loop-test .taken),
+  rw (c .wide .ensures) (repeat-goes (c .before .before .before .before .before .before .before .before .before .pre .0) (c .before .before .before .before .before .before .before .before .before .args .passes) (c .before .before .before .before .before .before .before .loop .inv .1) (c .before .before .before .before .before .before .loop-test .taken) (c .before .before .before .before .swap-pass .ensures) (c .before .if1 .left)),
+)
 
--- src/swaps.rt:430:1
 same-length-2 : tie.Need-same-length-2 Inv-loop μ-loop
 same-length-2 c = c .before .loop .inv .1 .kept .same-length
 
--- src/swaps.rt:430:1
 returns-2 : tie.Need-returns-2 Inv-loop μ-loop
 returns-2 c = repeat-done (c .before .before .before .pre .0) (c .before .before .before .args .passes) (c .loop-test .left) (c .before .loop .inv .1)
 

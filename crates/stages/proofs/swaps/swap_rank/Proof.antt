@@ -1,18 +1,16 @@
+-- The invariant: the proposals of rank a and the later ones before b are taken. Assumes nothing.
 use Prim.Native.Nat.{ℕ, _+_, _-_, _*_, _≤_}
-use mathlib.Core.Path.{_≡_, refl, sym, _∙_}
+use mathlib.Core.Path.{_≡_, refl}
 use mathlib.Core.List.{List}
 use native.Mathlib.Omega.{arith}
 use lib.ListN.{length}
+use borrow.Author.Needs.{needs}
 use Rattle.stages.specs.Level.{rowsAt}
 use Rattle.stages.specs.SwapsCode.{Holding, Taken, rankProposals}
 use Rattle.stages.proofs.SwapStepLaws.{taken-none}
 use Rattle.stages.proofs.SwapPassLaws.{holding-on, pair-turn, pairs-none}
-use borrow.Author.Needs.{needs}
 use Rattle.stages.proofs.swaps.swap_rank.Statement.{statement}
 use Rattle.stages.proofs.swaps.swap_rank.Tie as tie
-use Rattle.stages.proofs.swaps.swap_rank.Reads as reads
-use Rattle.stages.proofs.swaps.swap_rank.Lts as lts
-use Rattle.stages.proofs.swaps.swap_pair.Reads as swap-pair-reads
 
 abbrev Inv-loop : tie.InvT-loop
 Inv-loop work₀ s a done₀ b₀ work done b =
@@ -22,17 +20,18 @@ Inv-loop work₀ s a done₀ b₀ work done b =
 abbrev μ-loop : tie.MeasureT-loop
 μ-loop work₀ s a done₀ b₀ work done b = s .limits .ranks - b
 
--- src/swaps.rt:392:17
 add-b : tie.Need-add-b Inv-loop μ-loop
 add-b c = search needs
 
--- src/swaps.rt:393:5
 loop-holds : tie.Need-loop-holds Inv-loop μ-loop
-loop-holds c =
-    (omega arith, omega arith, omega arith, refl,
-    λ owners f. rw (pairs-none (rowsAt (c .before .args .work .now) (c .before .args .s .level)) owners (c .before .args .a)) (taken-none (c .before .pre .0)))
+loop-holds c = (
+  omega arith,
+  omega arith,
+  omega arith,
+  refl,
+  λ owners f. rw (pairs-none (rowsAt (c .before .args .work .now) (c .before .args .s .level)) owners (c .before .args .a)) (taken-none (c .before .pre .0)),
+)
 
--- src/swaps.rt:394:23
 swap-pair-requires : tie.Need-swap-pair-requires Inv-loop μ-loop
 swap-pair-requires c κs =
     let l = c .before .before .before .loop in
@@ -40,33 +39,27 @@ swap-pair-requires c κs =
     let t = l .inv .4 (p .2 .0) (p .2 .1) in
     (t .standing, p .1, c .before .if1 .taken, omega arith, (p .2 .0, holding-on (p .0 .given) t (p .2 .0) (p .2 .1)))
 
--- src/swaps.rt:394:16
 add-done : tie.Need-add-done Inv-loop μ-loop
 add-done c = omega (arith, c .before .before .swap-pair .ensures .0, c .before .before .before .before .before .before .before .before .pre .0 .given .few-ranks)
 
--- src/swaps.rt:395:9
 add-b-2 : tie.Need-add-b-2 Inv-loop μ-loop
 add-b-2 c = search needs
 
--- src/swaps.rt:393:5
 loop-less : tie.Need-loop-less Inv-loop μ-loop
 loop-less c = omega arith
 
--- src/swaps.rt:393:5
 loop-again : tie.Need-loop-again Inv-loop μ-loop
 loop-again c =
     let l = c .before .before .before .before .before .before .loop in
     let p = c .before .before .before .before .before .before .before .before .pre in
     let x = c .before .before .swap-pair in
     let next : (owners : List ℕ) → Holding (c .before .before .before .before .before .before .before .before .args .work .now) (c .before .before .before .before .before .before .before .before .args .s) owners → Taken (c .before .before .before .before .before .before .before .before .args .work .now) (x .last .0) (c .before .before .before .before .before .before .before .before .args .s) (l .done + x .result) (rankProposals (rowsAt (c .before .before .before .before .before .before .before .before .args .work .now) (c .before .before .before .before .before .before .before .before .args .s .level)) owners (c .before .before .before .before .before .before .before .before .args .a) (l .b + 1)) =
-        λ owners f. pair-turn (p .0 .given) (l .inv .4 owners f) owners (c .before .before .before .before .before .before .before .before .args .a) (l .b) refl (omega arith) (x .ensures .1 owners (holding-on (p .0 .given) (l .inv .4 owners f) owners f)) in
+    λ owners f. pair-turn (p .0 .given) (l .inv .4 owners f) owners (c .before .before .before .before .before .before .before .before .args .a) (l .b) refl (omega arith) (x .ensures .1 owners (holding-on (p .0 .given) (l .inv .4 owners f) owners f)) in
     (omega arith, omega arith, omega (arith, x .ensures .0), next (p .2 .0) (p .2 .1) .kept .same-length, next)
 
--- src/swaps.rt:386:1
 same-length : tie.Need-same-length Inv-loop μ-loop
 same-length c = c .before .before .loop .inv .3
 
--- src/swaps.rt:386:1
 returns : tie.Need-returns Inv-loop μ-loop
 returns c =
     let l = c .before .before .loop in

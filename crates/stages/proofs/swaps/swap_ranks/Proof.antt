@@ -1,3 +1,4 @@
+-- The invariant: the proposals of the ranks before a are taken. Assumes nothing.
 use Prim.Native.Nat.{ℕ, _+_, _-_, _*_, _≤_}
 use mathlib.Core.Path.{_≡_, refl, subst}
 use mathlib.Core.List.{List}
@@ -7,12 +8,8 @@ use Rattle.stages.specs.Level.{rowsAt}
 use Rattle.stages.specs.SwapsCode.{Holding, Taken, ranksProposals}
 use Rattle.stages.proofs.SwapStepLaws.{taken-none}
 use Rattle.stages.proofs.SwapPassLaws.{holding-on, rank-turn, ranks-all}
-use borrow.Author.Needs.{needs}
 use Rattle.stages.proofs.swaps.swap_ranks.Statement.{statement}
 use Rattle.stages.proofs.swaps.swap_ranks.Tie as tie
-use Rattle.stages.proofs.swaps.swap_ranks.Reads as reads
-use Rattle.stages.proofs.swaps.swap_ranks.Lts as lts
-use Rattle.stages.proofs.swaps.swap_rank.Reads as swap-rank-reads
 
 abbrev Inv-loop : tie.InvT-loop
 Inv-loop work₀ s done₀ a₀ work done a =
@@ -22,11 +19,9 @@ Inv-loop work₀ s done₀ a₀ work done a =
 abbrev μ-loop : tie.MeasureT-loop
 μ-loop work₀ s done₀ a₀ work done a = s .limits .ranks - a
 
--- src/swaps.rt:408:5
 loop-holds : tie.Need-loop-holds Inv-loop μ-loop
 loop-holds c = (omega arith, omega arith, refl, λ owners f. taken-none (c .before .pre .0))
 
--- src/swaps.rt:409:23
 swap-rank-requires : tie.Need-swap-rank-requires Inv-loop μ-loop
 swap-rank-requires c κs =
     let l = c .before .before .before .loop in
@@ -34,41 +29,36 @@ swap-rank-requires c κs =
     let t = l .inv .3 (p .1 .0) (p .1 .1) in
     (t .standing, c .before .if1 .taken, (p .1 .0, holding-on (p .0 .given) t (p .1 .0) (p .1 .1)))
 
--- src/swaps.rt:409:16
 add-done : tie.Need-add-done Inv-loop μ-loop
 add-done c = omega (arith, c .before .before .swap-rank .ensures .0, c .before .before .before .before .before .before .before .before .pre .0 .given .few-ranks)
 
--- src/swaps.rt:410:9
 add-a : tie.Need-add-a Inv-loop μ-loop
 add-a c = omega arith
 
--- src/swaps.rt:408:5
 loop-less : tie.Need-loop-less Inv-loop μ-loop
 loop-less c = omega arith
 
--- src/swaps.rt:408:5
 loop-again : tie.Need-loop-again Inv-loop μ-loop
 loop-again c =
     let l = c .before .before .before .before .before .before .loop in
     let p = c .before .before .before .before .before .before .before .before .pre in
     let x = c .before .before .swap-rank in
     let next : (owners : List ℕ) → Holding (c .before .before .before .before .before .before .before .before .args .work .now) (c .before .before .before .before .before .before .before .before .args .s) owners → Taken (c .before .before .before .before .before .before .before .before .args .work .now) (x .last .0) (c .before .before .before .before .before .before .before .before .args .s) (l .done + x .result) (ranksProposals (rowsAt (c .before .before .before .before .before .before .before .before .args .work .now) (c .before .before .before .before .before .before .before .before .args .s .level)) owners (c .before .before .before .before .before .before .before .before .args .s .limits .ranks) (l .a + 1)) =
-        λ owners f. rank-turn (p .0 .given) (l .inv .3 owners f) owners (l .a) refl (x .ensures .1 owners (holding-on (p .0 .given) (l .inv .3 owners f) owners f)) in
+    λ owners f. rank-turn (p .0 .given) (l .inv .3 owners f) owners (l .a) refl (x .ensures .1 owners (holding-on (p .0 .given) (l .inv .3 owners f) owners f)) in
     (omega arith, omega (arith, x .ensures .0), next (p .1 .0) (p .1 .1) .kept .same-length, next)
 
--- src/swaps.rt:401:1
 same-length : tie.Need-same-length Inv-loop μ-loop
 same-length c = c .before .before .loop .inv .2
 
--- src/swaps.rt:401:1
 returns : tie.Need-returns Inv-loop μ-loop
 returns c =
     let l = c .before .before .loop in
     let s = c .before .before .before .before .args .s in
     let w = c .before .before .before .before .args .work .now in
-    let e : l .a ≡ s .limits .ranks = omega arith in
-    (omega (arith, c .before .before .before .before .pre .0 .given .few-ranks),
-    λ owners f. subst (Taken w (l .work) s (l .done)) (ranks-all (rowsAt w (s .level)) owners (s .limits .ranks)) (rw e at (l .inv .3 owners f)))
+    let e : l .a ≡ s .limits .ranks = omega arith in (
+      omega (arith, c .before .before .before .before .pre .0 .given .few-ranks),
+      λ owners f. subst (Taken w (l .work) s (l .done)) (ranks-all (rowsAt w (s .level)) owners (s .limits .ranks)) (rw e at (l .inv .3 owners f)),
+    )
 
 pub swap-ranks-spec : {M : Type 1} → statement M
 swap-ranks-spec =

@@ -1,5 +1,6 @@
-use Prim.Native.Nat.{_+_, _-_, _*_, _≤_, _<_}
-use mathlib.Core.Path.{_≡_, refl, sym, ap, _∙_, subst}
+-- The invariant: the proposals of the slots before j are taken. Assumes nothing.
+use Prim.Native.Nat.{_+_, _-_, _*_, _≤_}
+use mathlib.Core.Path.{_≡_, refl, _∙_, subst}
 use mathlib.Core.List.{List, [], _∷_}
 use native.Mathlib.Omega.{arith}
 use lib.ListN.{length}
@@ -10,13 +11,8 @@ use Rattle.stages.specs.SwapsCode.{Named, Taken}
 use Rattle.stages.proofs.SlotLaws.{Walk, walk-start, walk-end, walk-stop, walk-here, walk-turn}
 use Rattle.stages.proofs.SwapListLaws.{snoc, snoc-all}
 use Rattle.stages.proofs.SwapStepLaws.{taken-none, taken-then}
-use borrow.Author.Needs.{needs}
 use Rattle.stages.proofs.swaps.take_all.Statement.{statement}
 use Rattle.stages.proofs.swaps.take_all.Tie as tie
-use Rattle.stages.proofs.swaps.take_all.Reads as reads
-use Rattle.stages.proofs.swaps.take_all.Lts as lts
-use Rattle.links.proofs.index.Reads as index-reads
-use Rattle.stages.proofs.swaps.try_swap.Reads as try-swap-reads
 
 abbrev Inv-loop : tie.InvT-loop
 Inv-loop work₀ s list n done₀ j₀ work done j =
@@ -26,93 +22,72 @@ Inv-loop work₀ s list n done₀ j₀ work done j =
 abbrev μ-loop : tie.MeasureT-loop
 μ-loop work₀ s list n done₀ j₀ work done j = n - j
 
--- src/swaps.rt:263:5
 loop-holds : tie.Need-loop-holds Inv-loop μ-loop
 loop-holds c = (omega arith, omega arith, refl, ([], walk-start (c .before .before .pre .3), taken-none (c .before .before .pre .0)))
 
--- src/swaps.rt:264:17
 mul-if1 : tie.Need-mul-if1 Inv-loop μ-loop
 mul-if1 c = omega arith
 
--- src/swaps.rt:264:12
 mul-if1-2 : tie.Need-mul-if1-2 Inv-loop μ-loop
 mul-if1-2 c = omega arith
 
--- src/swaps.rt:264:12
 shared-slice-read-if1 : tie.Need-shared-slice-read-if1 Inv-loop μ-loop
 shared-slice-read-if1 c = omega arith
 
--- src/swaps.rt:265:13
 same-length : tie.Need-same-length Inv-loop μ-loop
 same-length c = c .before .before .before .loop .inv .2
 
--- src/swaps.rt:265:13
 returns : tie.Need-returns Inv-loop μ-loop
 returns c =
     let l = c .before .before .before .loop in
     let e = walk-stop (l .inv .3 .1) (omega arith) (c .if1 .taken) ∙ snoc-all (slots proposal (c .before .before .before .before .before .before .args .n) (c .before .before .before .before .before .before .args .list .now)) in
     (omega arith, subst (Taken (c .before .before .before .before .before .before .args .work .now) (l .work) (c .before .before .before .before .before .before .args .s) (l .done)) e (l .inv .3 .2))
 
--- src/swaps.rt:267:52
 mul-index : tie.Need-mul-index Inv-loop μ-loop
 mul-index c = omega arith
 
--- src/swaps.rt:267:52
 add-index : tie.Need-add-index Inv-loop μ-loop
 add-index c = omega arith
 
--- src/swaps.rt:267:47
 mul-index-2 : tie.Need-mul-index-2 Inv-loop μ-loop
 mul-index-2 c = omega arith
 
--- src/swaps.rt:267:47
 shared-slice-read-index : tie.Need-shared-slice-read-index Inv-loop μ-loop
 shared-slice-read-index c = omega arith
 
--- src/swaps.rt:267:41
 index-requires : tie.Need-index-requires Inv-loop μ-loop
 index-requires c κs = tt
 
--- src/swaps.rt:267:76
 mul-index-3 : tie.Need-mul-index-3 Inv-loop μ-loop
 mul-index-3 c = omega arith
 
--- src/swaps.rt:267:76
 add-index-2 : tie.Need-add-index-2 Inv-loop μ-loop
 add-index-2 c = omega arith
 
--- src/swaps.rt:267:71
 mul-index-4 : tie.Need-mul-index-4 Inv-loop μ-loop
 mul-index-4 c = omega arith
 
--- src/swaps.rt:267:71
 shared-slice-read-index-2 : tie.Need-shared-slice-read-index-2 Inv-loop μ-loop
 shared-slice-read-index-2 c = omega arith
 
--- src/swaps.rt:267:65
 index-requires-2 : tie.Need-index-requires-2 Inv-loop μ-loop
 index-requires-2 c κs = tt
 
--- src/swaps.rt:267:23
 try-swap-requires : tie.Need-try-swap-requires Inv-loop μ-loop
 try-swap-requires c κs =
     let l = c .before .before .before .before .before .before .before .before .loop in
     let m = walk-here (l .inv .3 .1) (omega arith) (c .before .before .before .before .before .if1 .left) in
     (l .inv .3 .2 .standing, rw (c .before .before .index .ensures) (m .first-in), rw (c .index2 .ensures) (m .second-in))
 
--- src/swaps.rt:267:16
 add-done : tie.Need-add-done Inv-loop μ-loop
 add-done c = omega (arith, c .before .before .try-swap .ensures .0)
 
--- src/swaps.rt:268:9
 add-j : tie.Need-add-j Inv-loop μ-loop
 add-j c = omega arith
 
--- src/swaps.rt:263:5
 loop-less : tie.Need-loop-less Inv-loop μ-loop
 loop-less c = omega arith
 
--- src/swaps.rt:263:5
 loop-again : tie.Need-loop-again Inv-loop μ-loop
 loop-again c =
     let a = c .before .before .before .before .before .before .before .before .before .before .before .before .before .before .args in
@@ -122,15 +97,16 @@ loop-again c =
     let g = at (a .list .now) (3 * l .j) in
     let p = proposal g (at (a .list .now) (3 * l .j + 1)) (at (a .list .now) (3 * l .j + 2)) in
     let e : proposal g (c .before .before .before .before .before .index .result) (c .before .before .before .index2 .result) ≡ p = rw (c .before .before .before .before .before .index .ensures, c .before .before .before .index2 .ensures) in
-    let one : Taken (l .work) (t .last .0) (a .s) (t .result) (p ∷ []) = subst (λ (z : Proposal). Taken (l .work) (t .last .0) (a .s) (t .result) (z ∷ [])) e (t .ensures .1 g) in
-    (omega arith, omega (arith, t .ensures .0), one .kept .same-length ∙ l .inv .2,
-    (snoc (l .inv .3 .0) p, walk-turn (l .inv .3 .1) (omega arith) d (snoc (l .inv .3 .0) p) refl, taken-then (c .before .before .before .before .before .before .before .before .before .before .before .before .before .before .pre .0 .given) (l .inv .3 .2) one))
+    let one : Taken (l .work) (t .last .0) (a .s) (t .result) (p ∷ []) = subst (λ (z : Proposal). Taken (l .work) (t .last .0) (a .s) (t .result) (z ∷ [])) e (t .ensures .1 g) in (
+      omega arith,
+      omega (arith, t .ensures .0),
+      one .kept .same-length ∙ l .inv .2,
+      (snoc (l .inv .3 .0) p, walk-turn (l .inv .3 .1) (omega arith) d (snoc (l .inv .3 .0) p) refl, taken-then (c .before .before .before .before .before .before .before .before .before .before .before .before .before .before .pre .0 .given) (l .inv .3 .2) one),
+    )
 
--- src/swaps.rt:257:1
 same-length-2 : tie.Need-same-length-2 Inv-loop μ-loop
 same-length-2 c = c .before .loop .inv .2
 
--- src/swaps.rt:257:1
 returns-2 : tie.Need-returns-2 Inv-loop μ-loop
 returns-2 c =
     let l = c .before .loop in
