@@ -6,6 +6,15 @@ ghost use Rattle.multilevel.specs.Causes.{Limited, callOf};
 ghost use Rattle.multilevel.specs.Contract.{Partitioned};
 ghost use Rattle.multilevel.specs.Division.{swapPasses};
 ghost use Rattle.multilevel.specs.DriverCode.{Placed, Refining, LevelRefined, LevelGrown, LevelSolved, Finishing, LevelFinished, Divisible, SiteDivided, rulesWith};
+use crate::causes::early_cause;
+use crate::causes::work_need;
+use crate::lay::lay_site;
+use crate::measure::measure_level;
+use crate::room::level_at;
+use crate::room::moved_up;
+use crate::room::sized;
+use crate::takeover::take_over;
+use crate::writeback::write_owners;
 use links::AbtmMultilevelOptions;
 use links::AbtmMultilevelStats;
 use links::fill_part;
@@ -23,15 +32,6 @@ use stages::coarsen_once_cached;
 use stages::refine_by_cut;
 use stages::refine_fine_pair_swaps;
 use stages::weighted_multisource_partition;
-use crate::causes::early_cause;
-use crate::causes::work_need;
-use crate::lay::lay_site;
-use crate::measure::measure_level;
-use crate::room::level_at;
-use crate::room::moved_up;
-use crate::room::sized;
-use crate::takeover::take_over;
-use crate::writeback::write_owners;
 
 // What a division answers: its stats, or the refusal's number.
 pub enum Answer {
@@ -103,7 +103,12 @@ fn grow_level(work: &mut [u32], q: Rules, l: HierarchyLevel) -> Answer
     let n = l.vertices;
     let g = weighted_multisource_partition(work, l, scratch, ranks, cap);
     match g {
-        Grown::Owned(restarts) => refine_level(work, q, l, AbtmMultilevelStats::zero().grown(n as u64, restarts)),
+        Grown::Owned(restarts) => refine_level(
+            work,
+            q,
+            l,
+            AbtmMultilevelStats::zero().grown(n as u64, restarts),
+        ),
         Grown::Refused(number) => Answer::Refused(number),
     }
 }
@@ -125,7 +130,13 @@ fn solve(work: &mut [u32], q: Rules, left: usize, l: HierarchyLevel) -> Answer
     let scratch = q.scratch;
     let next = moved_up(l, unit);
     let step = coarsen_once_cached(work, l, next, scratch);
-    let Coarsened::Smaller { groups, entries, pairs, singletons } = step else {
+    let Coarsened::Smaller {
+        groups,
+        entries,
+        pairs,
+        singletons,
+    } = step
+    else {
         return grow_level(work, q, l);
     };
     let coarse = sized(next, groups, entries);
@@ -138,7 +149,13 @@ fn solve(work: &mut [u32], q: Rules, left: usize, l: HierarchyLevel) -> Answer
 }
 
 // The finest level's swaps and its measures: the stats of the division.
-fn finish(work: &mut [u32], q: Rules, l: HierarchyLevel, lists: usize, s: AbtmMultilevelStats) -> AbtmMultilevelStats
+fn finish(
+    work: &mut [u32],
+    q: Rules,
+    l: HierarchyLevel,
+    lists: usize,
+    s: AbtmMultilevelStats,
+) -> AbtmMultilevelStats
     requires { ⌜ Finishing (now work) l q lists ⌝ }
     ensures { λ r. ⌜ LevelFinished (now (work .entry)) (now (work .exit)) l q s r ⌝ }
 {
@@ -151,7 +168,14 @@ fn finish(work: &mut [u32], q: Rules, l: HierarchyLevel, lists: usize, s: AbtmMu
 }
 
 // The division of a site that passed the early tests, on a work slice of just the length that it needs.
-fn divide(offsets: &[u32], neighbors: &[u32], ranks: u32, options: AbtmMultilevelOptions, owners: &mut [u32], work: &mut [u32]) -> Answer
+fn divide(
+    offsets: &[u32],
+    neighbors: &[u32],
+    ranks: u32,
+    options: AbtmMultilevelOptions,
+    owners: &mut [u32],
+    work: &mut [u32],
+) -> Answer
     requires { ⌜ Divisible (callOf (now offsets) (now neighbors) ranks options (length (now owners)) (length (now work))) (now work) ⌝ }
     ensures { λ a. ⌜ SiteDivided (callOf (now (offsets .entry)) (now (neighbors .entry)) ranks options (length (now (owners .entry))) (length (now (work .entry)))) (now (owners .entry)) (now (owners .exit)) a ⌝ }
 {
@@ -173,7 +197,14 @@ fn divide(offsets: &[u32], neighbors: &[u32], ranks: u32, options: AbtmMultileve
 
 // Rule 8: the whole division. 1 to 5 touch nothing; past 5 the needed work numbers are zero at exit; owners are written only on success.
 // Rules out: moves and swaps only feigned; moves or restarts invented; rank 0 for all; owners never written; every site refused.
-pub fn abtm_multilevel_partition(offsets: &[u32], neighbors: &[u32], ranks: u32, options: AbtmMultilevelOptions, owners: &mut [u32], work: &mut [u32]) -> Answer
+pub fn abtm_multilevel_partition(
+    offsets: &[u32],
+    neighbors: &[u32],
+    ranks: u32,
+    options: AbtmMultilevelOptions,
+    owners: &mut [u32],
+    work: &mut [u32],
+) -> Answer
     ensures { λ a. ⌜ Partitioned (callOf (now (offsets .entry)) (now (neighbors .entry)) ranks options (length (now (owners .entry))) (length (now (work .entry)))) (now (owners .entry)) (now (owners .exit)) (now (work .entry)) (now (work .exit)) a ⌝ }
 {
     let cause = early_cause(offsets, neighbors, ranks, options, owners.len(), work.len());
@@ -182,7 +213,14 @@ pub fn abtm_multilevel_partition(offsets: &[u32], neighbors: &[u32], ranks: u32,
     }
     let levels = options.max_levels as usize;
     let need = work_need(vertex_count(offsets), neighbors.len(), index(ranks), levels);
-    let a = divide(offsets, neighbors, ranks, options, owners, &mut work[0..need]);
+    let a = divide(
+        offsets,
+        neighbors,
+        ranks,
+        options,
+        owners,
+        &mut work[0..need],
+    );
     fill_part(work, 0, need, 0);
     a
 }

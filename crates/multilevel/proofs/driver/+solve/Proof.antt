@@ -1,6 +1,6 @@
 use borrow.Author.Needs.{needs}
 use Prim.Native.Nat.{ℕ, _<_}
-use mathlib.Core.Path.{_≡_, _∙_}
+use mathlib.Core.Path.{_∙_}
 use native.Mathlib.Omega.{arith}
 use Rattle.multilevel.proofs.DescentLaws.{solved-last}
 use Rattle.multilevel.proofs.DescentCodeLaws.{code-small, code-coarsenable, code-regrown, code-same, code-placed, code-refused, code-stacked, code-refining, code-finer}
@@ -28,7 +28,6 @@ solve-at t = and 1 solve-kinds.ps (is 1 solve-kinds.ps μ-solve t) solve.Pre
 abbrev solve-below : ℕ → In 1 solve-kinds.ps
 solve-below t = and 1 solve-kinds.ps (falls 1 solve-kinds.ps _<_ μ-solve t) solve.Pre
 
--- src/driver.rt:106:9
 solve-grow-level-requires : (t : ℕ) → solve-lts.Need-grow-level-requires (
   grow-level-reads.Asked,
   grow-level-reads.Learnt,
@@ -49,7 +48,6 @@ solve-grow-level-requires : (t : ℕ) → solve-lts.Need-grow-level-requires (
 ) (solve-at t) solve.Post
 solve-grow-level-requires t c κs = search needs
 
--- src/driver.rt:106:9
 solve-same-length : (t : ℕ) → solve-lts.Need-same-length (
   grow-level-reads.Asked,
   grow-level-reads.Learnt,
@@ -70,7 +68,6 @@ solve-same-length : (t : ℕ) → solve-lts.Need-same-length (
 ) (solve-at t) solve.Post
 solve-same-length t c = search needs
 
--- src/driver.rt:106:9
 solve-returns : (t : ℕ) → solve-lts.Need-returns (
   grow-level-reads.Asked,
   grow-level-reads.Learnt,
@@ -91,7 +88,6 @@ solve-returns : (t : ℕ) → solve-lts.Need-returns (
 ) (solve-at t) solve.Post
 solve-returns t c = solved-last (c .before .before .before .before .before .before .args .work .now) (c .before .before .before .before .before .before .args .l) (c .before .before .before .before .before .before .args .q) (c .before .before .before .before .before .before .args .left) (c .before .before .before .before .before .before .pre .1 .0) _ _ (c .before .before .before .before .if1 .taken) (c .before .before .grow-level .ensures)
 
--- src/driver.rt:111:9
 solve-grow-level-requires-2 : (t : ℕ) → solve-lts.Need-grow-level-requires-2 (
   grow-level-reads.Asked,
   grow-level-reads.Learnt,
@@ -112,7 +108,6 @@ solve-grow-level-requires-2 : (t : ℕ) → solve-lts.Need-grow-level-requires-2
 ) (solve-at t) solve.Post
 solve-grow-level-requires-2 t c κs = search needs
 
--- src/driver.rt:111:9
 solve-same-length-2 : (t : ℕ) → solve-lts.Need-same-length-2 (
   grow-level-reads.Asked,
   grow-level-reads.Learnt,
@@ -133,7 +128,6 @@ solve-same-length-2 : (t : ℕ) → solve-lts.Need-same-length-2 (
 ) (solve-at t) solve.Post
 solve-same-length-2 t c = search needs
 
--- src/driver.rt:111:9
 solve-returns-2 : (t : ℕ) → solve-lts.Need-returns-2 (
   grow-level-reads.Asked,
   grow-level-reads.Learnt,
@@ -154,7 +148,6 @@ solve-returns-2 : (t : ℕ) → solve-lts.Need-returns-2 (
 ) (solve-at t) solve.Post
 solve-returns-2 t c = code-small (c .before .before .before .before .before .before .before .args .work .now) (c .before .before .before .before .before .before .before .args .l) (c .before .before .before .before .before .before .before .args .q) (c .before .before .before .before .before .before .before .args .left) (c .before .before .before .before .before .before .before .pre .1 .0) (c .before .before .before .before .before .if1 .left) _ _ (c .before .before .before .before .if2 .taken) (c .before .before .grow-level2 .ensures)
 
--- src/driver.rt:115:9
 solve-moved-up-requires : (t : ℕ) → solve-lts.Need-moved-up-requires (
   grow-level-reads.Asked,
   grow-level-reads.Learnt,
@@ -175,7 +168,6 @@ solve-moved-up-requires : (t : ℕ) → solve-lts.Need-moved-up-requires (
 ) (solve-at t) solve.Post
 solve-moved-up-requires t c κs = search needs
 
--- src/driver.rt:116:9
 solve-coarsen-once-cached-requires : (t : ℕ) → solve-lts.Need-coarsen-once-cached-requires (
   grow-level-reads.Asked,
   grow-level-reads.Learnt,
@@ -196,7 +188,6 @@ solve-coarsen-once-cached-requires : (t : ℕ) → solve-lts.Need-coarsen-once-c
 ) (solve-at t) solve.Post
 solve-coarsen-once-cached-requires t c κs = code-coarsenable (c .before .before .before .before .before .args .work .now) (c .before .before .before .before .before .args .l) (c .before .before .before .before .before .args .q) (c .before .before .before .before .before .args .left) (c .before .before .before .before .before .pre .1 .0) (c .before .before .before .if1 .left) (c .before .moved-up .result) (c .before .moved-up .ensures)
 
--- src/driver.rt:117:30
 solve-enum-known-step : (t : ℕ) → solve-lts.Need-enum-known-step (
   grow-level-reads.Asked,
   grow-level-reads.Learnt,
@@ -217,7 +208,6 @@ solve-enum-known-step : (t : ℕ) → solve-lts.Need-enum-known-step (
 ) (solve-at t) solve.Post
 solve-enum-known-step t c = search needs
 
--- src/driver.rt:118:27
 solve-enum-told : (t : ℕ) → solve-lts.Need-enum-told (
   grow-level-reads.Asked,
   grow-level-reads.Learnt,
@@ -238,7 +228,6 @@ solve-enum-told : (t : ℕ) → solve-lts.Need-enum-told (
 ) (solve-at t) solve.Post
 solve-enum-told t c = search needs
 
--- src/driver.rt:118:9
 solve-grow-level-requires-3 : (t : ℕ) → solve-lts.Need-grow-level-requires-3 (
   grow-level-reads.Asked,
   grow-level-reads.Learnt,
@@ -259,7 +248,6 @@ solve-grow-level-requires-3 : (t : ℕ) → solve-lts.Need-grow-level-requires-3
 ) (solve-at t) solve.Post
 solve-grow-level-requires-3 t c κs = code-regrown (c .before .before .before .before .before .before .before .before .before .before .before .args .work .now) (c .before .before .before .before .before .before .before .before .before .before .before .args .l) (c .before .before .before .before .before .before .before .before .before .before .before .args .q) (c .before .before .before .before .before .before .before .before .before .before .before .args .left) (c .before .before .before .before .before .before .before .before .before .before .before .pre .1 .0) (c .before .before .before .before .before .before .before .before .before .if1 .left) (c .before .before .before .before .before .before .before .moved-up .result) (c .before .before .before .before .before .before .before .moved-up .ensures) (c .before .before .before .before .before .before .before .before .if2 .left) _ _ (c .before .before .before .before .before .coarsen-once-cached .ensures)
 
--- src/driver.rt:118:9
 solve-same-length-3 : (t : ℕ) → solve-lts.Need-same-length-3 (
   grow-level-reads.Asked,
   grow-level-reads.Learnt,
@@ -280,7 +268,6 @@ solve-same-length-3 : (t : ℕ) → solve-lts.Need-same-length-3 (
 ) (solve-at t) solve.Post
 solve-same-length-3 t c = search needs
 
--- src/driver.rt:118:9
 solve-returns-3 : (t : ℕ) → solve-lts.Need-returns-3 (
   grow-level-reads.Asked,
   grow-level-reads.Learnt,
@@ -301,7 +288,6 @@ solve-returns-3 : (t : ℕ) → solve-lts.Need-returns-3 (
 ) (solve-at t) solve.Post
 solve-returns-3 t c = code-same (c .before .before .before .before .before .before .before .before .before .before .before .before .before .before .args .work .now) (c .before .before .before .before .before .before .before .before .before .before .before .before .before .before .args .l) (c .before .before .before .before .before .before .before .before .before .before .before .before .before .before .args .q) (c .before .before .before .before .before .before .before .before .before .before .before .before .before .before .args .left) (c .before .before .before .before .before .before .before .before .before .before .before .before .before .before .pre .1 .0) (c .before .before .before .before .before .before .before .before .before .before .before .before .if1 .left) (c .before .before .before .before .before .before .before .before .before .before .moved-up .result) (c .before .before .before .before .before .before .before .before .before .before .moved-up .ensures) (c .before .before .before .before .before .before .before .before .before .before .before .if2 .left) _ _ (c .before .before .before .before .before .before .before .before .coarsen-once-cached .ensures) _ _ (c .before .before .before .before .enum-told .given .1) (c .before .before .grow-level3 .ensures)
 
--- src/driver.rt:120:9
 solve-sized-requires : (t : ℕ) → solve-lts.Need-sized-requires (
   grow-level-reads.Asked,
   grow-level-reads.Learnt,
@@ -322,7 +308,6 @@ solve-sized-requires : (t : ℕ) → solve-lts.Need-sized-requires (
 ) (solve-at t) solve.Post
 solve-sized-requires t c κs = search needs
 
--- src/driver.rt:121:28
 solve-sub-solve : (t : ℕ) → solve-lts.Need-sub-solve (
   grow-level-reads.Asked,
   grow-level-reads.Learnt,
@@ -343,7 +328,6 @@ solve-sub-solve : (t : ℕ) → solve-lts.Need-sub-solve (
 ) (solve-at t) solve.Post
 solve-sub-solve t c = search needs
 
--- src/driver.rt:121:9
 solve-solve-requires : (t : ℕ) → solve-lts.Need-solve-requires (
   grow-level-reads.Asked,
   grow-level-reads.Learnt,
@@ -364,7 +348,6 @@ solve-solve-requires : (t : ℕ) → solve-lts.Need-solve-requires (
 ) (solve-at t) solve.Post
 solve-solve-requires t c κs = (let z = c .before .before .before .before .before .before .before .before .before .before .before .if1 .left in let t = c .before .before .before .before .before .before .before .before .before .before .before .before .before .pre .0 in omega arith, (code-placed (c .before .before .before .before .before .before .before .before .before .before .before .before .before .args .work .now) (c .before .before .before .before .before .before .before .before .before .before .before .before .before .args .l) (c .before .before .before .before .before .before .before .before .before .before .before .before .before .args .q) (c .before .before .before .before .before .before .before .before .before .before .before .before .before .args .left) (c .before .before .before .before .before .before .before .before .before .before .before .before .before .pre .1 .0) (c .before .before .before .before .before .before .before .before .before .before .before .if1 .left) (c .before .before .before .before .before .before .before .before .before .moved-up .result) (c .before .before .before .before .before .before .before .before .before .moved-up .ensures) (c .before .before .before .before .before .before .before .before .before .before .if2 .left) _ _ (c .before .before .before .before .before .before .before .coarsen-once-cached .ensures) _ _ _ _ (c .before .before .before .step .given .1) (c .before .sized .result) (c .before .sized .ensures), omega (arith, c .before .before .before .before .before .before .before .before .before .before .before .before .before .pre .1 .1)))
 
--- src/driver.rt:122:25
 solve-enum-known-a : (t : ℕ) → solve-lts.Need-enum-known-a (
   grow-level-reads.Asked,
   grow-level-reads.Learnt,
@@ -385,7 +368,6 @@ solve-enum-known-a : (t : ℕ) → solve-lts.Need-enum-known-a (
 ) (solve-at t) solve.Post
 solve-enum-known-a t c = search needs
 
--- src/driver.rt:123:9
 solve-enum-told-2 : (t : ℕ) → solve-lts.Need-enum-told-2 (
   grow-level-reads.Asked,
   grow-level-reads.Learnt,
@@ -406,7 +388,6 @@ solve-enum-told-2 : (t : ℕ) → solve-lts.Need-enum-told-2 (
 ) (solve-at t) solve.Post
 solve-enum-told-2 t c = search needs
 
--- src/driver.rt:123:9
 solve-same-length-4 : (t : ℕ) → solve-lts.Need-same-length-4 (
   grow-level-reads.Asked,
   grow-level-reads.Learnt,
@@ -427,7 +408,6 @@ solve-same-length-4 : (t : ℕ) → solve-lts.Need-same-length-4 (
 ) (solve-at t) solve.Post
 solve-same-length-4 t c = search needs
 
--- src/driver.rt:123:9
 solve-returns-4 : (t : ℕ) → solve-lts.Need-returns-4 (
   grow-level-reads.Asked,
   grow-level-reads.Learnt,
@@ -448,7 +428,6 @@ solve-returns-4 : (t : ℕ) → solve-lts.Need-returns-4 (
 ) (solve-at t) solve.Post
 solve-returns-4 t c = code-refused (c .before .before .before .before .before .before .before .before .before .before .before .before .before .before .before .before .before .before .args .work .now) (c .before .before .before .before .before .before .before .before .before .before .before .before .before .before .before .before .before .before .args .l) (c .before .before .before .before .before .before .before .before .before .before .before .before .before .before .before .before .before .before .args .q) (c .before .before .before .before .before .before .before .before .before .before .before .before .before .before .before .before .before .before .args .left) (c .before .before .before .before .before .before .before .before .before .before .before .before .before .before .before .before .before .before .pre .1 .0) (c .before .before .before .before .before .before .before .before .before .before .before .before .before .before .before .before .if1 .left) (c .before .before .before .before .before .before .before .before .before .before .before .before .before .before .moved-up .result) (c .before .before .before .before .before .before .before .before .before .before .before .before .before .before .moved-up .ensures) (c .before .before .before .before .before .before .before .before .before .before .before .before .before .before .before .if2 .left) _ _ (c .before .before .before .before .before .before .before .before .before .before .before .before .coarsen-once-cached .ensures) _ _ _ _ (c .before .before .before .before .before .before .before .before .step .given .1) (c .before .before .before .before .before .before .sized .result) (c .before .before .before .before .before .before .sized .ensures) _ _ (c .before .before .before .before .solve .ensures) _ (c .enum-told2 .given .1)
 
--- src/driver.rt:125:5
 solve-take-over-requires : (t : ℕ) → solve-lts.Need-take-over-requires (
   grow-level-reads.Asked,
   grow-level-reads.Learnt,
@@ -469,7 +448,6 @@ solve-take-over-requires : (t : ℕ) → solve-lts.Need-take-over-requires (
 ) (solve-at t) solve.Post
 solve-take-over-requires t c κs = code-stacked (c .before .before .before .before .before .before .before .before .before .before .before .before .before .before .before .before .before .before .before .before .args .work .now) (c .before .before .before .before .before .before .before .before .before .before .before .before .before .before .before .before .before .before .before .before .args .l) (c .before .before .before .before .before .before .before .before .before .before .before .before .before .before .before .before .before .before .before .before .args .q) (c .before .before .before .before .before .before .before .before .before .before .before .before .before .before .before .before .before .before .before .before .args .left) (c .before .before .before .before .before .before .before .before .before .before .before .before .before .before .before .before .before .before .before .before .pre .1 .0) (c .before .before .before .before .before .before .before .before .before .before .before .before .before .before .before .before .before .before .if1 .left) (c .before .before .before .before .before .before .before .before .before .before .before .before .before .before .before .before .moved-up .result) (c .before .before .before .before .before .before .before .before .before .before .before .before .before .before .before .before .moved-up .ensures) (c .before .before .before .before .before .before .before .before .before .before .before .before .before .before .before .before .before .if2 .left) _ _ (c .before .before .before .before .before .before .before .before .before .before .before .before .before .before .coarsen-once-cached .ensures) _ _ _ _ (c .before .before .before .before .before .before .before .before .before .before .step .given .1) (c .before .before .before .before .before .before .before .before .sized .result) (c .before .before .before .before .before .before .before .before .sized .ensures) _ _ (c .before .before .before .before .before .before .solve .ensures) _ (c .before .before .a .given .1)
 
--- src/driver.rt:126:30
 solve-added-pairs-requires : (t : ℕ) → solve-lts.Need-added-pairs-requires (
   grow-level-reads.Asked,
   grow-level-reads.Learnt,
@@ -490,7 +468,6 @@ solve-added-pairs-requires : (t : ℕ) → solve-lts.Need-added-pairs-requires (
 ) (solve-at t) solve.Post
 solve-added-pairs-requires t c κs = search needs
 
--- src/driver.rt:126:5
 solve-refine-level-requires : (t : ℕ) → solve-lts.Need-refine-level-requires (
   grow-level-reads.Asked,
   grow-level-reads.Learnt,
@@ -511,7 +488,6 @@ solve-refine-level-requires : (t : ℕ) → solve-lts.Need-refine-level-requires
 ) (solve-at t) solve.Post
 solve-refine-level-requires t c κs = code-refining (c .before .before .before .before .before .before .before .before .before .before .before .before .before .before .before .before .before .before .before .before .before .before .before .before .before .args .work .now) (c .before .before .before .before .before .before .before .before .before .before .before .before .before .before .before .before .before .before .before .before .before .before .before .before .before .args .l) (c .before .before .before .before .before .before .before .before .before .before .before .before .before .before .before .before .before .before .before .before .before .before .before .before .before .args .q) (c .before .before .before .before .before .before .before .before .before .before .before .before .before .before .before .before .before .before .before .before .before .before .before .before .before .args .left) (c .before .before .before .before .before .before .before .before .before .before .before .before .before .before .before .before .before .before .before .before .before .before .before .before .before .pre .1 .0) (c .before .before .before .before .before .before .before .before .before .before .before .before .before .before .before .before .before .before .before .before .before .before .before .if1 .left) (c .before .before .before .before .before .before .before .before .before .before .before .before .before .before .before .before .before .before .before .before .before .moved-up .result) (c .before .before .before .before .before .before .before .before .before .before .before .before .before .before .before .before .before .before .before .before .before .moved-up .ensures) (c .before .before .before .before .before .before .before .before .before .before .before .before .before .before .before .before .before .before .before .before .before .before .if2 .left) _ _ (c .before .before .before .before .before .before .before .before .before .before .before .before .before .before .before .before .before .before .before .coarsen-once-cached .ensures) _ _ _ _ (c .before .before .before .before .before .before .before .before .before .before .before .before .before .before .before .step .given .1) (c .before .before .before .before .before .before .before .before .before .before .before .before .before .sized .result) (c .before .before .before .before .before .before .before .before .before .before .before .before .before .sized .ensures) _ _ (c .before .before .before .before .before .before .before .before .before .before .before .solve .ensures) _ (c .before .before .before .before .before .before .before .a .given .1) _ (c .before .before .before .before .take-over .ensures)
 
--- src/driver.rt:101:1
 solve-same-length-5 : (t : ℕ) → solve-lts.Need-same-length-5 (
   grow-level-reads.Asked,
   grow-level-reads.Learnt,
@@ -532,7 +508,6 @@ solve-same-length-5 : (t : ℕ) → solve-lts.Need-same-length-5 (
 ) (solve-at t) solve.Post
 solve-same-length-5 t c = c .before .before .refine-level .ensures .kept .same-length ∙ c .before .before .before .before .before .before .before .take-over .ensures .frame .same-length ∙ c .before .before .before .before .before .before .before .before .before .before .before .before .before .before .solve .ensures .kept .same-length ∙ c .before .before .before .before .before .before .before .before .before .before .before .before .before .before .before .before .before .before .before .before .before .before .coarsen-once-cached .ensures .kept .same-length
 
--- src/driver.rt:101:1
 solve-returns-5 : (t : ℕ) → solve-lts.Need-returns-5 (
   grow-level-reads.Asked,
   grow-level-reads.Learnt,

@@ -9,64 +9,43 @@ use Rattle.multilevel.proofs.EndLaws.{whole-limits, whole-fits, whole-d
 use borrow.Author.Needs.{needs}
 use Rattle.multilevel.proofs.driver.abtm_multilevel_partition.Statement.{statement}
 use Rattle.multilevel.proofs.driver.abtm_multilevel_partition.Tie as tie
-use Rattle.multilevel.proofs.driver.abtm_multilevel_partition.Reads as reads
-use Rattle.multilevel.proofs.driver.abtm_multilevel_partition.Lts as lts
-use Rattle.links.proofs.vertex_count.Reads as vertex-count-reads
-use Rattle.links.proofs.fill_part.Reads as fill-part-reads
-use Rattle.links.proofs.index.Reads as index-reads
-use Rattle.multilevel.proofs.causes.early_cause.Reads as early-cause-reads
-use Rattle.multilevel.proofs.causes.work_need.Reads as work-need-reads
-use Rattle.multilevel.proofs.driver.divide.Reads as divide-reads
 
--- src/driver.rt:179:9
 early-cause-requires : tie.Need-early-cause-requires
 early-cause-requires c κs = search needs
 
--- src/driver.rt:181:9
 returns : tie.Need-returns
 returns c = early-refused (callOf (c .before .before .before .before .before .before .args .offsets .now) (c .before .before .before .before .before .before .args .neighbors .now) (c .before .before .before .before .before .before .args .ranks) (c .before .before .before .before .before .before .args .options) (length (c .before .before .before .before .before .before .args .owners .now)) (length (c .before .before .before .before .before .before .args .work .now))) (c .before .before .before .before .before .before .args .owners .now) (c .before .before .before .before .before .before .args .work .now) _ (c .before .early-cause .ensures) (c .if1 .taken)
 
--- src/driver.rt:184:26
 vertex-count-requires : tie.Need-vertex-count-requires
 vertex-count-requires c κs = search needs
 
--- src/driver.rt:184:66
 index-requires : tie.Need-index-requires
 index-requires c κs = search needs
 
--- src/driver.rt:184:9
 work-need-requires : tie.Need-work-need-requires
 work-need-requires c κs = rw (c .before .vertex-count .ensures, c .index .ensures) (whole-limits (callOf (c .before .before .before .before .before .before .before .before .args .offsets .now) (c .before .before .before .before .before .before .before .before .args .neighbors .now) (c .before .before .before .before .before .before .before .before .args .ranks) (c .before .before .before .before .before .before .before .before .args .options) (length (c .before .before .before .before .before .before .before .before .args .owners .now)) (length (c .before .before .before .before .before .before .before .before .args .work .now))) (sym (c .before .before .before .early-cause .ensures) ∙ c .before .before .if1 .left))
 
--- src/driver.rt:185:64
 sub-divide : tie.Need-sub-divide
 sub-divide c = search needs
 
--- src/driver.rt:185:64
 part-divide-start : tie.Need-part-divide-start
 part-divide-start c = search needs
 
--- src/driver.rt:185:64
 part-divide-end : tie.Need-part-divide-end
 part-divide-end c = omega (arith, whole-fits (callOf (c .before .before .before .before .before .before .before .before .before .before .args .offsets .now) (c .before .before .before .before .before .before .before .before .before .before .args .neighbors .now) (c .before .before .before .before .before .before .before .before .before .before .args .ranks) (c .before .before .before .before .before .before .before .before .before .before .args .options) (length (c .before .before .before .before .before .before .before .before .before .before .args .owners .now)) (length (c .before .before .before .before .before .before .before .before .before .before .args .work .now))) (sym (c .before .before .before .before .before .early-cause .ensures) ∙ c .before .before .before .before .if1 .left) (c .before .before .before .before .before .before .before .before .before .before .args .work .now) refl (c .before .work-need .result) (c .before .work-need .ensures ∙ ap (λ (x : ℕ). workNeed x (length (c .before .before .before .before .before .before .before .before .before .before .args .neighbors .now)) (c .before .before .index .result) (c .before .before .before .before .before .before .before .before .before .before .args .options .«max_levels»)) (c .before .before .before .vertex-count .ensures) ∙ ap (λ (x : ℕ). workNeed (vertexCount (c .before .before .before .before .before .before .before .before .before .before .args .offsets .now)) (length (c .before .before .before .before .before .before .before .before .before .before .args .neighbors .now)) x (c .before .before .before .before .before .before .before .before .before .before .args .options .«max_levels»)) (c .before .before .index .ensures)))
 
--- src/driver.rt:185:9
 divide-requires : tie.Need-divide-requires
 divide-requires c κs = whole-divisible (callOf (c .before .before .before .before .before .before .before .before .before .before .before .args .offsets .now) (c .before .before .before .before .before .before .before .before .before .before .before .args .neighbors .now) (c .before .before .before .before .before .before .before .before .before .before .before .args .ranks) (c .before .before .before .before .before .before .before .before .before .before .before .args .options) (length (c .before .before .before .before .before .before .before .before .before .before .before .args .owners .now)) (length (c .before .before .before .before .before .before .before .before .before .before .before .args .work .now))) (sym (c .before .before .before .before .before .before .early-cause .ensures) ∙ c .before .before .before .before .before .if1 .left) (c .before .before .before .before .before .before .before .before .before .before .before .args .work .now) refl (c .before .before .work-need .result) (c .before .before .work-need .ensures ∙ ap (λ (x : ℕ). workNeed x (length (c .before .before .before .before .before .before .before .before .before .before .before .args .neighbors .now)) (c .before .before .before .index .result) (c .before .before .before .before .before .before .before .before .before .before .before .args .options .«max_levels»)) (c .before .before .before .before .vertex-count .ensures) ∙ ap (λ (x : ℕ). workNeed (vertexCount (c .before .before .before .before .before .before .before .before .before .before .before .args .offsets .now)) (length (c .before .before .before .before .before .before .before .before .before .before .before .args .neighbors .now)) x (c .before .before .before .before .before .before .before .before .before .before .before .args .options .«max_levels»)) (c .before .before .before .index .ensures))
 
--- src/driver.rt:186:5
 fill-part-requires : tie.Need-fill-part-requires
 fill-part-requires c κs = (omega arith, whole-given-back (callOf (c .before .before .before .before .before .before .before .before .before .before .before .before .before .before .before .before .before .args .offsets .now) (c .before .before .before .before .before .before .before .before .before .before .before .before .before .before .before .before .before .args .neighbors .now) (c .before .before .before .before .before .before .before .before .before .before .before .before .before .before .before .before .before .args .ranks) (c .before .before .before .before .before .before .before .before .before .before .before .before .before .before .before .before .before .args .options) (length (c .before .before .before .before .before .before .before .before .before .before .before .before .before .before .before .before .before .args .owners .now)) (length (c .before .before .before .before .before .before .before .before .before .before .before .before .before .before .before .before .before .args .work .now))) (sym (c .before .before .before .before .before .before .before .before .before .before .before .before .early-cause .ensures) ∙ c .before .before .before .before .before .before .before .before .before .before .before .if1 .left) (c .before .before .before .before .before .before .before .before .before .before .before .before .before .before .before .before .before .args .work .now) refl (c .before .before .before .before .before .before .before .before .work-need .result) (c .before .before .before .before .before .before .before .before .work-need .ensures ∙ ap (λ (x : ℕ). workNeed x (length (c .before .before .before .before .before .before .before .before .before .before .before .before .before .before .before .before .before .args .neighbors .now)) (c .before .before .before .before .before .before .before .before .before .index .result) (c .before .before .before .before .before .before .before .before .before .before .before .before .before .before .before .before .before .args .options .«max_levels»)) (c .before .before .before .before .before .before .before .before .before .before .vertex-count .ensures) ∙ ap (λ (x : ℕ). workNeed (vertexCount (c .before .before .before .before .before .before .before .before .before .before .before .before .before .before .before .before .before .args .offsets .now)) (length (c .before .before .before .before .before .before .before .before .before .before .before .before .before .before .before .before .before .args .neighbors .now)) x (c .before .before .before .before .before .before .before .before .before .before .before .before .before .before .before .before .before .args .options .«max_levels»)) (c .before .before .before .before .before .before .before .before .before .index .ensures)) (c .before .before .before .before .before .divide .last .1 .1 .1 .1 .1 .0) (c .before .before .before .before .before .divide .kept .1 .1 .1 .1 .1 .0))
 
--- src/driver.rt:176:1
 same-length : tie.Need-same-length
 same-length c = search needs
 
--- src/driver.rt:176:1
 same-length-2 : tie.Need-same-length-2
 same-length-2 c = search needs
 
--- src/driver.rt:176:1
 returns-2 : tie.Need-returns-2
 returns-2 c = whole-partitioned (callOf (c .before .before .before .before .before .before .before .before .before .before .before .before .before .before .before .before .before .before .before .before .args .offsets .now) (c .before .before .before .before .before .before .before .before .before .before .before .before .before .before .before .before .before .before .before .before .args .neighbors .now) (c .before .before .before .before .before .before .before .before .before .before .before .before .before .before .before .before .before .before .before .before .args .ranks) (c .before .before .before .before .before .before .before .before .before .before .before .before .before .before .before .before .before .before .before .before .args .options) (length (c .before .before .before .before .before .before .before .before .before .before .before .before .before .before .before .before .before .before .before .before .args .owners .now)) (length (c .before .before .before .before .before .before .before .before .before .before .before .before .before .before .before .before .before .before .before .before .args .work .now))) (sym (c .before .before .before .before .before .before .before .before .before .before .before .before .before .before .before .early-cause .ensures) ∙ c .before .before .before .before .before .before .before .before .before .before .before .before .before .before .if1 .left) (c .before .before .before .before .before .before .before .before .before .before .before .before .before .before .before .before .before .before .before .before .args .work .now) refl (c .before .before .before .before .before .before .before .before .before .before .before .work-need .result) (c .before .before .before .before .before .before .before .before .before .before .before .work-need .ensures ∙ ap (λ (x : ℕ). workNeed x (length (c .before .before .before .before .before .before .before .before .before .before .before .before .before .before .before .before .before .before .before .before .args .neighbors .now)) (c .before .before .before .before .before .before .before .before .before .before .before .before .index .result) (c .before .before .before .before .before .before .before .before .before .before .before .before .before .before .before .before .before .before .before .before .args .options .«max_levels»)) (c .before .before .before .before .before .before .before .before .before .before .before .before .before .vertex-count .ensures) ∙ ap (λ (x : ℕ). workNeed (vertexCount (c .before .before .before .before .before .before .before .before .before .before .before .before .before .before .before .before .before .before .before .before .args .offsets .now)) (length (c .before .before .before .before .before .before .before .before .before .before .before .before .before .before .before .before .before .before .before .before .args .neighbors .now)) x (c .before .before .before .before .before .before .before .before .before .before .before .before .before .before .before .before .before .before .before .before .args .options .«max_levels»)) (c .before .before .before .before .before .before .before .before .before .before .before .before .index .ensures)) _ _ _ _ (c .before .before .fill-part .ensures ∙ whole-zeroed (callOf (c .before .before .before .before .before .before .before .before .before .before .before .before .before .before .before .before .before .before .before .before .args .offsets .now) (c .before .before .before .before .before .before .before .before .before .before .before .before .before .before .before .before .before .before .before .before .args .neighbors .now) (c .before .before .before .before .before .before .before .before .before .before .before .before .before .before .before .before .before .before .before .before .args .ranks) (c .before .before .before .before .before .before .before .before .before .before .before .before .before .before .before .before .before .before .before .before .args .options) (length (c .before .before .before .before .before .before .before .before .before .before .before .before .before .before .before .before .before .before .before .before .args .owners .now)) (length (c .before .before .before .before .before .before .before .before .before .before .before .before .before .before .before .before .before .before .before .before .args .work .now))) (sym (c .before .before .before .before .before .before .before .before .before .before .before .before .before .before .before .early-cause .ensures) ∙ c .before .before .before .before .before .before .before .before .before .before .before .before .before .before .if1 .left) (c .before .before .before .before .before .before .before .before .before .before .before .before .before .before .before .before .before .before .before .before .args .work .now) refl (c .before .before .before .before .before .before .before .before .before .before .before .work-need .result) (c .before .before .before .before .before .before .before .before .before .before .before .work-need .ensures ∙ ap (λ (x : ℕ). workNeed x (length (c .before .before .before .before .before .before .before .before .before .before .before .before .before .before .before .before .before .before .before .before .args .neighbors .now)) (c .before .before .before .before .before .before .before .before .before .before .before .before .index .result) (c .before .before .before .before .before .before .before .before .before .before .before .before .before .before .before .before .before .before .before .before .args .options .«max_levels»)) (c .before .before .before .before .before .before .before .before .before .before .before .before .before .vertex-count .ensures) ∙ ap (λ (x : ℕ). workNeed (vertexCount (c .before .before .before .before .before .before .before .before .before .before .before .before .before .before .before .before .before .before .before .before .args .offsets .now)) (length (c .before .before .before .before .before .before .before .before .before .before .before .before .before .before .before .before .before .before .before .before .args .neighbors .now)) x (c .before .before .before .before .before .before .before .before .before .before .before .before .before .before .before .before .before .before .before .before .args .options .«max_levels»)) (c .before .before .before .before .before .before .before .before .before .before .before .before .index .ensures)) (c .before .before .before .before .before .before .before .before .divide .last .1 .1 .1 .1 .1 .0) (c .before .before .before .before .before .before .before .before .divide .kept .1 .1 .1 .1 .1 .0)) (c .before .before .before .before .before .before .before .before .divide .ensures)
 

@@ -9,77 +9,52 @@ use Rattle.multilevel.proofs.EndLaws.{site-limits, code-fits, code-site
 use borrow.Author.Needs.{needs}
 use Rattle.multilevel.proofs.driver.divide.Statement.{statement}
 use Rattle.multilevel.proofs.driver.divide.Tie as tie
-use Rattle.multilevel.proofs.driver.divide.Reads as reads
-use Rattle.multilevel.proofs.driver.divide.Lts as lts
-use Rattle.links.proofs.vertex_count.Reads as vertex-count-reads
-use Rattle.multilevel.proofs.driver.finish.Reads as finish-reads
-use Rattle.multilevel.proofs.driver.rules_of.Reads as rules-of-reads
-use Rattle.multilevel.proofs.driver.solve.Reads as solve-reads
-use Rattle.multilevel.proofs.lay.lay_site.Reads as lay-site-reads
-use Rattle.multilevel.proofs.room.level_at.Reads as level-at-reads
-use Rattle.multilevel.proofs.writeback.write_owners.Reads as write-owners-reads
 
--- src/driver.rt:158:9
 vertex-count-requires : tie.Need-vertex-count-requires
 vertex-count-requires c κs = search needs
 
--- src/driver.rt:160:9
 rules-of-requires : tie.Need-rules-of-requires
 rules-of-requires c κs = rw (c .vertex-count .ensures) (site-limits (callOf (c .before .before .before .before .before .args .offsets .now) (c .before .before .before .before .before .args .neighbors .now) (c .before .before .before .before .before .args .ranks) (c .before .before .before .before .before .args .options) (length (c .before .before .before .before .before .args .owners .now)) (length (c .before .before .before .before .before .args .work .now))) (c .before .before .before .before .before .args .work .now) (c .before .before .before .before .before .pre))
 
--- src/driver.rt:161:9
 level-at-requires : tie.Need-level-at-requires
 level-at-requires c κs = search needs
 
--- src/driver.rt:163:5
 lay-site-requires : tie.Need-lay-site-requires
 lay-site-requires c κs = code-fits (callOf (c .before .before .before .before .before .before .before .before .args .offsets .now) (c .before .before .before .before .before .before .before .before .args .neighbors .now) (c .before .before .before .before .before .before .before .before .args .ranks) (c .before .before .before .before .before .before .before .before .args .options) (length (c .before .before .before .before .before .before .before .before .args .owners .now)) (length (c .before .before .before .before .before .before .before .before .args .work .now))) (c .before .before .before .before .before .before .before .before .args .work .now) (c .before .before .before .before .before .before .before .before .pre) (c .before .before .rules-of .result) (c .before .before .rules-of .ensures ∙ ap (λ (x : ℕ). rulesWith x (length (c .before .before .before .before .before .before .before .before .args .neighbors .now)) (c .before .before .before .before .before .before .before .before .args .ranks) (c .before .before .before .before .before .before .before .before .args .options)) (c .before .before .before .vertex-count .ensures)) (c .before .level-at .result) (c .before .level-at .ensures ∙ ap (λ (x : ℕ). levelAt x (length (c .before .before .before .before .before .before .before .before .args .neighbors .now)) 0) (c .before .before .before .vertex-count .ensures))
 
--- src/driver.rt:164:9
 solve-requires : tie.Need-solve-requires
 solve-requires c κs = code-site (callOf (c .before .before .before .before .before .before .before .before .before .before .before .before .args .offsets .now) (c .before .before .before .before .before .before .before .before .before .before .before .before .args .neighbors .now) (c .before .before .before .before .before .before .before .before .before .before .before .before .args .ranks) (c .before .before .before .before .before .before .before .before .before .before .before .before .args .options) (length (c .before .before .before .before .before .before .before .before .before .before .before .before .args .owners .now)) (length (c .before .before .before .before .before .before .before .before .before .before .before .before .args .work .now))) (c .before .before .before .before .before .before .before .before .before .before .before .before .args .work .now) (c .before .before .before .before .before .before .before .before .before .before .before .before .pre) (c .before .before .before .before .before .before .rules-of .result) (c .before .before .before .before .before .before .rules-of .ensures ∙ ap (λ (x : ℕ). rulesWith x (length (c .before .before .before .before .before .before .before .before .before .before .before .before .args .neighbors .now)) (c .before .before .before .before .before .before .before .before .before .before .before .before .args .ranks) (c .before .before .before .before .before .before .before .before .before .before .before .before .args .options)) (c .before .before .before .before .before .before .before .vertex-count .ensures)) (c .before .before .before .before .before .level-at .result) (c .before .before .before .before .before .level-at .ensures ∙ ap (λ (x : ℕ). levelAt x (length (c .before .before .before .before .before .before .before .before .before .before .before .before .args .neighbors .now)) 0) (c .before .before .before .before .before .before .before .vertex-count .ensures)) _ (c .before .before .before .lay-site .ensures)
 
--- src/driver.rt:165:25
 enum-known-a : tie.Need-enum-known-a
 enum-known-a c = search needs
 
--- src/driver.rt:166:9
 enum-told : tie.Need-enum-told
 enum-told c = search needs
 
--- src/driver.rt:166:9
 same-length : tie.Need-same-length
 same-length c = search needs
 
--- src/driver.rt:166:9
 returns : tie.Need-returns
 returns c = code-refusal (callOf (c .before .before .before .before .before .before .before .before .before .before .before .before .before .before .before .before .before .args .offsets .now) (c .before .before .before .before .before .before .before .before .before .before .before .before .before .before .before .before .before .args .neighbors .now) (c .before .before .before .before .before .before .before .before .before .before .before .before .before .before .before .before .before .args .ranks) (c .before .before .before .before .before .before .before .before .before .before .before .before .before .before .before .before .before .args .options) (length (c .before .before .before .before .before .before .before .before .before .before .before .before .before .before .before .before .before .args .owners .now)) (length (c .before .before .before .before .before .before .before .before .before .before .before .before .before .before .before .before .before .args .work .now))) (c .before .before .before .before .before .before .before .before .before .before .before .before .before .before .before .before .before .args .work .now) (c .before .before .before .before .before .before .before .before .before .before .before .before .before .before .before .before .before .pre) (c .before .before .before .before .before .before .before .before .before .before .before .rules-of .result) (c .before .before .before .before .before .before .before .before .before .before .before .rules-of .ensures ∙ ap (λ (x : ℕ). rulesWith x (length (c .before .before .before .before .before .before .before .before .before .before .before .before .before .before .before .before .before .args .neighbors .now)) (c .before .before .before .before .before .before .before .before .before .before .before .before .before .before .before .before .before .args .ranks) (c .before .before .before .before .before .before .before .before .before .before .before .before .before .before .before .before .before .args .options)) (c .before .before .before .before .before .before .before .before .before .before .before .before .vertex-count .ensures)) (c .before .before .before .before .before .before .before .before .before .before .level-at .result) (c .before .before .before .before .before .before .before .before .before .before .level-at .ensures ∙ ap (λ (x : ℕ). levelAt x (length (c .before .before .before .before .before .before .before .before .before .before .before .before .before .before .before .before .before .args .neighbors .now)) 0) (c .before .before .before .before .before .before .before .before .before .before .before .before .vertex-count .ensures)) _ (c .before .before .before .before .before .before .before .before .lay-site .ensures) _ _ (c .before .before .before .before .solve .ensures) _ _ (c .enum-told .given .1)
 
--- src/driver.rt:168:29
 mul-lists : tie.Need-mul-lists
 mul-lists c = omega (arith, rooms-small (callOf (c .before .before .before .before .before .before .before .before .before .before .before .before .before .before .before .before .before .before .before .args .offsets .now) (c .before .before .before .before .before .before .before .before .before .before .before .before .before .before .before .before .before .before .before .args .neighbors .now) (c .before .before .before .before .before .before .before .before .before .before .before .before .before .before .before .before .before .before .before .args .ranks) (c .before .before .before .before .before .before .before .before .before .before .before .before .before .before .before .before .before .before .before .args .options) (length (c .before .before .before .before .before .before .before .before .before .before .before .before .before .before .before .before .before .before .before .args .owners .now)) (length (c .before .before .before .before .before .before .before .before .before .before .before .before .before .before .before .before .before .before .before .args .work .now))) (c .before .before .before .before .before .before .before .before .before .before .before .before .before .before .before .before .before .before .before .args .work .now) (c .before .before .before .before .before .before .before .before .before .before .before .before .before .before .before .before .before .before .before .pre) (c .before .before .before .before .before .before .before .before .before .before .before .before .before .rules-of .result) (c .before .before .before .before .before .before .before .before .before .before .before .before .before .rules-of .ensures ∙ ap (λ (x : ℕ). rulesWith x (length (c .before .before .before .before .before .before .before .before .before .before .before .before .before .before .before .before .before .before .before .args .neighbors .now)) (c .before .before .before .before .before .before .before .before .before .before .before .before .before .before .before .before .before .before .before .args .ranks) (c .before .before .before .before .before .before .before .before .before .before .before .before .before .before .before .before .before .before .before .args .options)) (c .before .before .before .before .before .before .before .before .before .before .before .before .before .before .vertex-count .ensures)) (c .before .before .before .before .before .before .before .before .before .before .before .before .level-at .result) (c .before .before .before .before .before .before .before .before .before .before .before .before .level-at .ensures ∙ ap (λ (x : ℕ). levelAt x (length (c .before .before .before .before .before .before .before .before .before .before .before .before .before .before .before .before .before .before .before .args .neighbors .now)) 0) (c .before .before .before .before .before .before .before .before .before .before .before .before .before .before .vertex-count .ensures)), c .before .before .before .before .before .before .before .before .before .before .before .before .before .before .before .before .before .before .before .good)
 
--- src/driver.rt:168:17
 add-lists : tie.Need-add-lists
 add-lists c = omega (arith, rooms-small (callOf (c .before .before .before .before .before .before .before .before .before .before .before .before .before .before .before .before .before .before .before .before .args .offsets .now) (c .before .before .before .before .before .before .before .before .before .before .before .before .before .before .before .before .before .before .before .before .args .neighbors .now) (c .before .before .before .before .before .before .before .before .before .before .before .before .before .before .before .before .before .before .before .before .args .ranks) (c .before .before .before .before .before .before .before .before .before .before .before .before .before .before .before .before .before .before .before .before .args .options) (length (c .before .before .before .before .before .before .before .before .before .before .before .before .before .before .before .before .before .before .before .before .args .owners .now)) (length (c .before .before .before .before .before .before .before .before .before .before .before .before .before .before .before .before .before .before .before .before .args .work .now))) (c .before .before .before .before .before .before .before .before .before .before .before .before .before .before .before .before .before .before .before .before .args .work .now) (c .before .before .before .before .before .before .before .before .before .before .before .before .before .before .before .before .before .before .before .before .pre) (c .before .before .before .before .before .before .before .before .before .before .before .before .before .before .rules-of .result) (c .before .before .before .before .before .before .before .before .before .before .before .before .before .before .rules-of .ensures ∙ ap (λ (x : ℕ). rulesWith x (length (c .before .before .before .before .before .before .before .before .before .before .before .before .before .before .before .before .before .before .before .before .args .neighbors .now)) (c .before .before .before .before .before .before .before .before .before .before .before .before .before .before .before .before .before .before .before .before .args .ranks) (c .before .before .before .before .before .before .before .before .before .before .before .before .before .before .before .before .before .before .before .before .args .options)) (c .before .before .before .before .before .before .before .before .before .before .before .before .before .before .before .vertex-count .ensures)) (c .before .before .before .before .before .before .before .before .before .before .before .before .before .level-at .result) (c .before .before .before .before .before .before .before .before .before .before .before .before .before .level-at .ensures ∙ ap (λ (x : ℕ). levelAt x (length (c .before .before .before .before .before .before .before .before .before .before .before .before .before .before .before .before .before .before .before .before .args .neighbors .now)) 0) (c .before .before .before .before .before .before .before .before .before .before .before .before .before .before .before .vertex-count .ensures)), c .before .before .before .before .before .before .before .before .before .before .before .before .before .before .before .before .before .before .before .before .good)
 
--- src/driver.rt:169:9
 finish-requires : tie.Need-finish-requires
 finish-requires c κs = code-finishing (callOf (c .before .before .before .before .before .before .before .before .before .before .before .before .before .before .before .before .before .before .before .before .before .args .offsets .now) (c .before .before .before .before .before .before .before .before .before .before .before .before .before .before .before .before .before .before .before .before .before .args .neighbors .now) (c .before .before .before .before .before .before .before .before .before .before .before .before .before .before .before .before .before .before .before .before .before .args .ranks) (c .before .before .before .before .before .before .before .before .before .before .before .before .before .before .before .before .before .before .before .before .before .args .options) (length (c .before .before .before .before .before .before .before .before .before .before .before .before .before .before .before .before .before .before .before .before .before .args .owners .now)) (length (c .before .before .before .before .before .before .before .before .before .before .before .before .before .before .before .before .before .before .before .before .before .args .work .now))) (c .before .before .before .before .before .before .before .before .before .before .before .before .before .before .before .before .before .before .before .before .before .args .work .now) (c .before .before .before .before .before .before .before .before .before .before .before .before .before .before .before .before .before .before .before .before .before .pre) (c .before .before .before .before .before .before .before .before .before .before .before .before .before .before .before .rules-of .result) (c .before .before .before .before .before .before .before .before .before .before .before .before .before .before .before .rules-of .ensures ∙ ap (λ (x : ℕ). rulesWith x (length (c .before .before .before .before .before .before .before .before .before .before .before .before .before .before .before .before .before .before .before .before .before .args .neighbors .now)) (c .before .before .before .before .before .before .before .before .before .before .before .before .before .before .before .before .before .before .before .before .before .args .ranks) (c .before .before .before .before .before .before .before .before .before .before .before .before .before .before .before .before .before .before .before .before .before .args .options)) (c .before .before .before .before .before .before .before .before .before .before .before .before .before .before .before .before .vertex-count .ensures)) (c .before .before .before .before .before .before .before .before .before .before .before .before .before .before .level-at .result) (c .before .before .before .before .before .before .before .before .before .before .before .before .before .before .level-at .ensures ∙ ap (λ (x : ℕ). levelAt x (length (c .before .before .before .before .before .before .before .before .before .before .before .before .before .before .before .before .before .before .before .before .before .args .neighbors .now)) 0) (c .before .before .before .before .before .before .before .before .before .before .before .before .before .before .before .before .vertex-count .ensures)) _ (c .before .before .before .before .before .before .before .before .before .before .before .before .lay-site .ensures) _ _ (c .before .before .before .before .before .before .before .before .solve .ensures) _ (c .before .before .before .before .a .given .1)
 
--- src/driver.rt:170:5
 write-owners-requires : tie.Need-write-owners-requires
 write-owners-requires c κs = code-room (callOf (c .before .before .before .before .before .before .before .before .before .before .before .before .before .before .before .before .before .before .before .before .before .before .before .before .before .before .args .offsets .now) (c .before .before .before .before .before .before .before .before .before .before .before .before .before .before .before .before .before .before .before .before .before .before .before .before .before .before .args .neighbors .now) (c .before .before .before .before .before .before .before .before .before .before .before .before .before .before .before .before .before .before .before .before .before .before .before .before .before .before .args .ranks) (c .before .before .before .before .before .before .before .before .before .before .before .before .before .before .before .before .before .before .before .before .before .before .before .before .before .before .args .options) (length (c .before .before .before .before .before .before .before .before .before .before .before .before .before .before .before .before .before .before .before .before .before .before .before .before .before .before .args .owners .now)) (length (c .before .before .before .before .before .before .before .before .before .before .before .before .before .before .before .before .before .before .before .before .before .before .before .before .before .before .args .work .now))) (c .before .before .before .before .before .before .before .before .before .before .before .before .before .before .before .before .before .before .before .before .before .before .before .before .before .before .args .work .now) (c .before .before .before .before .before .before .before .before .before .before .before .before .before .before .before .before .before .before .before .before .before .before .before .before .before .before .pre) (c .before .before .before .before .before .before .before .before .before .before .before .before .before .before .before .before .before .before .before .before .rules-of .result) (c .before .before .before .before .before .before .before .before .before .before .before .before .before .before .before .before .before .before .before .before .rules-of .ensures ∙ ap (λ (x : ℕ). rulesWith x (length (c .before .before .before .before .before .before .before .before .before .before .before .before .before .before .before .before .before .before .before .before .before .before .before .before .before .before .args .neighbors .now)) (c .before .before .before .before .before .before .before .before .before .before .before .before .before .before .before .before .before .before .before .before .before .before .before .before .before .before .args .ranks) (c .before .before .before .before .before .before .before .before .before .before .before .before .before .before .before .before .before .before .before .before .before .before .before .before .before .before .args .options)) (c .before .before .before .before .before .before .before .before .before .before .before .before .before .before .before .before .before .before .before .before .before .vertex-count .ensures)) (c .before .before .before .before .before .before .before .before .before .before .before .before .before .before .before .before .before .before .before .level-at .result) (c .before .before .before .before .before .before .before .before .before .before .before .before .before .before .before .before .before .before .before .level-at .ensures ∙ ap (λ (x : ℕ). levelAt x (length (c .before .before .before .before .before .before .before .before .before .before .before .before .before .before .before .before .before .before .before .before .before .before .before .before .before .before .args .neighbors .now)) 0) (c .before .before .before .before .before .before .before .before .before .before .before .before .before .before .before .before .before .before .before .before .before .vertex-count .ensures)) _ (c .before .before .before .before .before .before .before .before .before .before .before .before .before .before .before .before .before .lay-site .ensures) _ _ (c .before .before .before .before .before .before .before .before .before .before .before .before .before .solve .ensures) _ (c .before .before .before .before .before .before .before .before .before .a .given .1) _ _ (c .before .before .before .before .finish .ensures)
 
--- src/driver.rt:154:1
 same-length-2 : tie.Need-same-length-2
 same-length-2 c = search needs
 
--- src/driver.rt:154:1
 same-length-3 : tie.Need-same-length-3
 same-length-3 c = c .before .before .before .before .before .before .before .finish .ensures .same-length ∙ c .before .before .before .before .before .before .before .before .before .before .before .before .before .before .before .before .solve .ensures .kept .same-length ∙ c .before .before .before .before .before .before .before .before .before .before .before .before .before .before .before .before .before .before .before .before .lay-site .ensures .frame .same-length
 
--- src/driver.rt:154:1
 returns-2 : tie.Need-returns-2
 returns-2 c = code-divided (callOf (c .before .before .before .before .before .before .before .before .before .before .before .before .before .before .before .before .before .before .before .before .before .before .before .before .before .before .before .before .before .args .offsets .now) (c .before .before .before .before .before .before .before .before .before .before .before .before .before .before .before .before .before .before .before .before .before .before .before .before .before .before .before .before .before .args .neighbors .now) (c .before .before .before .before .before .before .before .before .before .before .before .before .before .before .before .before .before .before .before .before .before .before .before .before .before .before .before .before .before .args .ranks) (c .before .before .before .before .before .before .before .before .before .before .before .before .before .before .before .before .before .before .before .before .before .before .before .before .before .before .before .before .before .args .options) (length (c .before .before .before .before .before .before .before .before .before .before .before .before .before .before .before .before .before .before .before .before .before .before .before .before .before .before .before .before .before .args .owners .now)) (length (c .before .before .before .before .before .before .before .before .before .before .before .before .before .before .before .before .before .before .before .before .before .before .before .before .before .before .before .before .before .args .work .now))) (c .before .before .before .before .before .before .before .before .before .before .before .before .before .before .before .before .before .before .before .before .before .before .before .before .before .before .before .before .before .args .work .now) (c .before .before .before .before .before .before .before .before .before .before .before .before .before .before .before .before .before .before .before .before .before .before .before .before .before .before .before .before .before .pre) (c .before .before .before .before .before .before .before .before .before .before .before .before .before .before .before .before .before .before .before .before .before .before .before .rules-of .result) (c .before .before .before .before .before .before .before .before .before .before .before .before .before .before .before .before .before .before .before .before .before .before .before .rules-of .ensures ∙ ap (λ (x : ℕ). rulesWith x (length (c .before .before .before .before .before .before .before .before .before .before .before .before .before .before .before .before .before .before .before .before .before .before .before .before .before .before .before .before .before .args .neighbors .now)) (c .before .before .before .before .before .before .before .before .before .before .before .before .before .before .before .before .before .before .before .before .before .before .before .before .before .before .before .before .before .args .ranks) (c .before .before .before .before .before .before .before .before .before .before .before .before .before .before .before .before .before .before .before .before .before .before .before .before .before .before .before .before .before .args .options)) (c .before .before .before .before .before .before .before .before .before .before .before .before .before .before .before .before .before .before .before .before .before .before .before .before .vertex-count .ensures)) (c .before .before .before .before .before .before .before .before .before .before .before .before .before .before .before .before .before .before .before .before .before .before .level-at .result) (c .before .before .before .before .before .before .before .before .before .before .before .before .before .before .before .before .before .before .before .before .before .before .level-at .ensures ∙ ap (λ (x : ℕ). levelAt x (length (c .before .before .before .before .before .before .before .before .before .before .before .before .before .before .before .before .before .before .before .before .before .before .before .before .before .before .before .before .before .args .neighbors .now)) 0) (c .before .before .before .before .before .before .before .before .before .before .before .before .before .before .before .before .before .before .before .before .before .before .before .before .vertex-count .ensures)) _ (c .before .before .before .before .before .before .before .before .before .before .before .before .before .before .before .before .before .before .before .before .lay-site .ensures) _ _ (c .before .before .before .before .before .before .before .before .before .before .before .before .before .before .before .before .solve .ensures) _ (c .before .before .before .before .before .before .before .before .before .before .before .before .a .given .1) _ _ (c .before .before .before .before .before .before .before .finish .ensures) _ _ (c .before .before .write-owners .ensures)
 

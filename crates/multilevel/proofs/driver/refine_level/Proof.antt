@@ -1,42 +1,29 @@
-use mathlib.Core.Path.{_≡_, sym, _∙_, ap}
 use Rattle.multilevel.proofs.PlaceLaws.{refinable, level-moved, level-refused}
 use borrow.Author.Needs.{needs}
 use Rattle.multilevel.proofs.driver.refine_level.Statement.{statement}
 use Rattle.multilevel.proofs.driver.refine_level.Tie as tie
-use Rattle.multilevel.proofs.driver.refine_level.Reads as reads
-use Rattle.multilevel.proofs.driver.refine_level.Lts as lts
-use Rattle.links.proofs.options.AbtmMultilevelStats.added_moves.Reads as added-moves-reads
-use Rattle.stages.proofs.refine_by_cut.Reads as refine-by-cut-reads
 
--- src/driver.rt:33:9
 refine-by-cut-requires : tie.Need-refine-by-cut-requires
 refine-by-cut-requires c κs = refinable (c .before .before .before .args .work .now) (c .before .before .before .args .l) (c .before .before .before .args .q) (c .before .before .before .pre)
 
--- src/driver.rt:35:24
 enum-known-r : tie.Need-enum-known-r
 enum-known-r c = search needs
 
--- src/driver.rt:35:50
 added-moves-requires : tie.Need-added-moves-requires
 added-moves-requires c κs = search needs
 
--- src/driver.rt:36:26
 enum-known-r-2 : tie.Need-enum-known-r-2
 enum-known-r-2 c = search needs
 
--- src/driver.rt:27:1
 same-length : tie.Need-same-length
 same-length c = c .before .before .before .before .before .before .refine-by-cut .ensures .kept .same-length
 
--- src/driver.rt:27:1
 returns : tie.Need-returns
 returns c = level-moved (c .before .before .before .before .before .before .before .before .before .before .args .work .now) (c .before .before .before .before .before .before .before .before .before .before .args .l) (c .before .before .before .before .before .before .before .before .before .before .args .q) (c .before .before .before .before .before .before .before .before .before .before .pre) _ (c .before .before .before .before .before .before .before .before .before .before .args .s) (c .added-moves .result) (c .before .before .r .given .0 .0) (rw (c .before .before .r .given .1) at (c .before .before .before .before .before .before .refine-by-cut .ensures)) (c .added-moves .ensures)
 
--- src/driver.rt:27:1
 same-length-2 : tie.Need-same-length-2
 same-length-2 c = c .before .before .before .before .before .refine-by-cut .ensures .kept .same-length
 
--- src/driver.rt:27:1
 returns-2 : tie.Need-returns-2
 returns-2 c = level-refused (c .before .before .before .before .before .before .before .before .before .args .work .now) (c .before .before .before .before .before .before .before .before .before .args .l) (c .before .before .before .before .before .before .before .before .before .args .q) (c .before .before .before .before .before .before .before .before .before .pre) _ (c .before .before .before .before .before .before .before .before .before .args .s) (c .before .r2 .given .0 .0) (rw (c .before .r2 .given .1) at (c .before .before .before .before .before .refine-by-cut .ensures))
 

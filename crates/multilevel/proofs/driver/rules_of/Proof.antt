@@ -7,61 +7,43 @@ use Rattle.multilevel.proofs.CauseLaws.{need-small}
 use borrow.Author.Needs.{needs}
 use Rattle.multilevel.proofs.driver.rules_of.Statement.{statement}
 use Rattle.multilevel.proofs.driver.rules_of.Tie as tie
-use Rattle.multilevel.proofs.driver.rules_of.Reads as reads
-use Rattle.multilevel.proofs.driver.rules_of.Lts as lts
-use Rattle.links.proofs.load_cap.Reads as load-cap-reads
-use Rattle.links.proofs.minimum_load.Reads as minimum-load-reads
-use Rattle.links.proofs.options.AbtmMultilevelOptions.stop_size.Reads as stop-size-reads
-use Rattle.links.proofs.index.Reads as index-reads
 
 six : (l u : ℕ) → (l + 6) * u ≡ (l + 1 + 5) * u
 six l u = let e : l + 6 ≡ l + 1 + 5 = omega arith in rw e
 
--- src/driver.rt:52:13
 cast-t : tie.Need-cast-t
 cast-t c = search needs
 
--- src/driver.rt:54:16
 mul-unit : tie.Need-mul-unit
 mul-unit c = search needs
 
--- src/driver.rt:54:24
 mul-unit-2 : tie.Need-mul-unit-2
 mul-unit-2 c = search needs
 
--- src/driver.rt:54:16
 add-unit : tie.Need-add-unit
 add-unit c = search needs
 
--- src/driver.rt:54:16
 add-unit-2 : tie.Need-add-unit-2
 add-unit-2 c = search needs
 
--- src/driver.rt:56:16
 index-requires : tie.Need-index-requires
 index-requires c κs = search needs
 
--- src/driver.rt:57:16
 minimum-load-requires : tie.Need-minimum-load-requires
 minimum-load-requires c κs = search needs
 
--- src/driver.rt:58:14
 load-cap-requires : tie.Need-load-cap-requires
 load-cap-requires c κs = search needs
 
--- src/driver.rt:63:15
 stop-size-requires : tie.Need-stop-size-requires
 stop-size-requires c κs = search needs
 
--- src/driver.rt:65:19
 add-t11 : tie.Need-add-t11
 add-t11 c = search needs
 
--- src/driver.rt:65:18
 mul-t10 : tie.Need-mul-t10
 mul-t10 c = omega (arith, need-small (c .before .before .before .before .before .args .n) (c .before .before .before .before .before .args .m) (c .before .before .before .before .before .args .ranks) (c .before .before .before .before .before .args .options .«max_levels») (c .before .before .before .before .before .pre .0) .0, add-mul (c .before .before .before .before .before .args .options .«max_levels» + 1) 5 (unitOf (c .before .before .before .before .before .args .n) (c .before .before .before .before .before .args .m)), six (c .before .before .before .before .before .args .options .«max_levels») (unitOf (c .before .before .before .before .before .args .n) (c .before .before .before .before .before .args .m)))
 
--- src/driver.rt:48:1
 returns : tie.Need-returns
 returns c = rw (c .before .before .before .index .ensures, c .before .before .minimum-load .ensures, c .before .load-cap .ensures, c .stop-size .ensures)
 
