@@ -1,1 +1,2 @@
 pub mod LinkFile
+pub mod Division

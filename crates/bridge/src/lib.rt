@@ -1,8 +1,10 @@
 // The library over numbers and slices, for a caller in another language: oracle/ links it and compares its answers with the Rust's.
 use links::AbtmMultilevelOptions;
+use links::AbtmMultilevelStats;
 use links::Assignment;
 use links::Count;
 use links::Owner;
+use multilevel::Answer;
 use multilevel::Read;
 use multilevel::Sizes;
 ghost use mathlib.Core.Path.{_≡_};
@@ -15,7 +17,9 @@ ghost use Rattle.links.specs.Options.{optionsCause};
 ghost use Rattle.links.specs.Graph.{owned, neighborsCause, neighborsOf, listsCause};
 ghost use Rattle.links.specs.Owners.{fromOwners, ownerCause, countCause};
 ghost use Rattle.multilevel.specs.File.{fileCause};
+ghost use Rattle.multilevel.specs.Causes.{callOf};
 ghost use Rattle.bridge.specs.LinkFile.{headerOf, ReadAsNumbers};
+ghost use Rattle.bridge.specs.Division.{optionsFrom, statsNumbers, DividedAsNumbers};
 
 #[no_mangle]
 pub extern "C" fn bridge_load_cap(total: u64, ranks: u32, imbalance_per_mille: u32) -> u64
@@ -172,6 +176,53 @@ pub extern "C" fn bridge_read_link_file(
         }
         Read::Refused(number) => {
             *header = [0; 7];
+            number
+        }
+    }
+}
+
+// The eight stats, in their order.
+fn numbers_of(s: AbtmMultilevelStats) -> [u64; 8]
+    ensures { λ r. ⌜ r ≡ statsNumbers s ⌝ }
+{
+    [
+        s.levels_built,
+        s.coarsest_vertices,
+        s.matched_pairs,
+        s.singleton_aggregates,
+        s.coarse_restarts,
+        s.refinement_moves,
+        s.final_cut_nnz,
+        s.final_communication_volume,
+    ]
+}
+
+// 0, or the refusal; the eight stats, or zeros, are written.
+#[no_mangle]
+pub extern "C" fn bridge_divide(
+    offsets: &[u32],
+    neighbors: &[u32],
+    ranks: u32,
+    options: &[u64; 4],
+    owners: &mut [u32],
+    work: &mut [u32],
+    stats: &mut [u64; 8],
+) -> u32
+    ensures { λ r. ⌜ DividedAsNumbers (callOf (now (offsets .entry)) (now (neighbors .entry)) ranks (optionsFrom (now (options .entry))) (length (now (owners .entry))) (length (now (work .entry)))) (now (owners .entry)) (now (owners .exit)) (now (work .entry)) (now (work .exit)) (now (stats .exit)) r ⌝ }
+{
+    let chosen = AbtmMultilevelOptions {
+        max_levels: options[0],
+        coarse_vertices_per_rank: options[1],
+        imbalance_per_mille: options[2],
+        refinement_passes: options[3],
+    };
+    match multilevel::abtm_multilevel_partition(offsets, neighbors, ranks, chosen, owners, work) {
+        Answer::Divided(s) => {
+            *stats = numbers_of(s);
+            0
+        }
+        Answer::Refused(number) => {
+            *stats = [0; 8];
             number
         }
     }

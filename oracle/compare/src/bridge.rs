@@ -44,6 +44,19 @@ mod exported {
             neighbors: *const u32,
             neighbors_len: usize,
         ) -> u32;
+        pub fn bridge_divide(
+            offsets: *const u32,
+            offsets_len: usize,
+            neighbors: *const u32,
+            neighbors_len: usize,
+            ranks: u32,
+            options: *const [u64; 4],
+            owners: *mut u32,
+            owners_len: usize,
+            work: *mut u32,
+            work_len: usize,
+            stats: *mut [u64; 8],
+        ) -> u32;
         pub fn bridge_link_file_cause(file: *const u8, file_len: usize) -> u32;
         pub fn bridge_read_link_file(
             file: *const u8,
@@ -119,4 +132,21 @@ pub fn read_link_file(file: &[u8], offsets: &mut [u32], neighbors: &mut [u32]) -
     let mut header = [77; 7];
     let number = unsafe { bridge_read_link_file(p, n, op, on, np, nn, &mut header) };
     (number, header)
+}
+
+/// The number and the eight stats, which are not 0 before the call.
+pub fn divide(
+    offsets: &[u32],
+    neighbors: &[u32],
+    ranks: u32,
+    o: reference::answers::Options,
+    owners: &mut [u32],
+    work: &mut [u32],
+) -> (u32, [u64; 8]) {
+    let ((op, on), (np, nn)) = (lent!(offsets), lent!(neighbors));
+    let options = [o.max_levels, o.coarse_vertices_per_rank, o.imbalance_per_mille, o.refinement_passes];
+    let mut stats = [77; 8];
+    let (rp, rn, wp, wn) = (owners.as_mut_ptr(), owners.len(), work.as_mut_ptr(), work.len());
+    let number = unsafe { bridge_divide(op, on, np, nn, ranks, &options, rp, rn, wp, wn, &mut stats) };
+    (number, stats)
 }

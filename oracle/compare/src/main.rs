@@ -5,6 +5,7 @@
 //! The count is how many random inputs a check draws (20000 if not given). The exit status is 1 where an answer differs.
 mod bridge;
 mod byhand;
+mod division;
 mod link_file;
 mod links;
 mod report;
@@ -28,5 +29,6 @@ fn main() {
     byhand::check(&mut report, seed, count);
     links::compare(&mut report, seed, count);
     link_file::compare(&mut report, seed, count);
+    division::compare(&mut report, seed, count);
     std::process::exit(if report.end() { 0 } else { 1 });
 }

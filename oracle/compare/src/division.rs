@@ -1,0 +1,116 @@
+//! The whole division beside the Rust's: refusal, owners, all eight stats, and what was written of the lent slices and what was not.
+use crate::bridge;
+use crate::report::{Check, Report};
+use reference::answers::{Options, lent_needs, partition_lent, vertex_count};
+use reference::random::Random;
+use reference::sites::{self, Site, some_options};
+
+/// What a call answers and leaves: the number, the stats, the owner slice, and whether the work slice is as it should be.
+type Left = (u32, [u64; 8], Vec<u32>, bool);
+
+/// One call of both, with `owners_more` and `work_more` numbers lent beyond what is needed (or fewer).
+fn compare_one(check: &mut Check, random: &mut Random, site: &Site, ranks: u32, options: Options, owners_more: i64, work_more: i64) {
+    let (n, m) = (vertex_count(&site.offsets), site.neighbors.len());
+    // what is out of the limits is lent little: it is refused before
+    let within = n <= 16_384 && m <= 131_072 && ranks <= 256 && options.max_levels <= 32;
+    let (owners_need, work_need) = if within { lent_needs(n, m, ranks, options.max_levels) } else { (n, 100) };
+    let lent = |need: usize, more: i64| (need as i64 + more).max(0) as usize;
+    let mut owners: Vec<u32> = (0..lent(owners_need, owners_more)).map(|_| random.draw() as u32).collect();
+    let mut work: Vec<u32> = (0..lent(work_need, work_more)).map(|i| (i as u32).wrapping_mul(2_654_435_761) | 1).collect();
+    let (owners_before, work_before) = (owners.clone(), work.clone());
+
+    let (number, stats) = bridge::divide(&site.offsets, &site.neighbors, ranks, options, &mut owners, &mut work);
+    let kept = if (1..=5).contains(&number) {
+        work == work_before
+    } else {
+        work[..work_need].iter().all(|&x| x == 0) && work[work_need..] == work_before[work_need..]
+    };
+    let ours: Left = (number, stats, owners, kept);
+
+    let rust = partition_lent(&site.offsets, &site.neighbors, ranks, options, owners_before.len(), work_before.len());
+    let expected: Left = match rust {
+        Ok((written, stats)) => {
+            let mut after = owners_before;
+            after[..n].copy_from_slice(&written);
+            (0, stats, after, true)
+        }
+        Err(number) => (number, [0; 8], owners_before, true),
+    };
+    check.same(expected.0, ours, expected, || site.question(ranks, options));
+}
+
+/// All graphs of up to four vertices, all ranks, and a grid of options.
+fn small(check: &mut Check, random: &mut Random) {
+    for n in 1..=4usize {
+        for code in 0..1u64 << (n * (n - 1) / 2) {
+            let site = sites::numbered(n, code);
+            for ranks in 1..=n as u32 {
+                for max_levels in [1, 2, 32] {
+                    for coarse_vertices_per_rank in [1, 2, 64] {
+                        for imbalance_per_mille in [0, 30, 200, 334, 500] {
+                            for refinement_passes in [1, 2, u64::MAX] {
+                                let options = Options { max_levels, coarse_vertices_per_rank, imbalance_per_mille, refinement_passes };
+                                compare_one(check, random, &site, ranks, options, 1, 3);
+                            }
+                        }
+                    }
+                }
+            }
+        }
+    }
+}
+
+/// Options of which one is out of its range.
+fn bad_options(random: &mut Random) -> Options {
+    let mut o = some_options(random);
+    match random.below(6) {
+        0 => o.max_levels = 0,
+        1 => o.coarse_vertices_per_rank = 0,
+        2 => o.refinement_passes = 0,
+        3 => o.imbalance_per_mille = 501,
+        4 => o.imbalance_per_mille = (1 << 32) + 30,
+        _ => o.max_levels = 33,
+    }
+    o
+}
+
+fn bad(check: &mut Check, random: &mut Random, count: u64) {
+    for _ in 0..count {
+        let mut site = sites::any(random, 12);
+        let n = site.vertices();
+        let (mut ranks, mut options) = (1 + random.index(n.min(4)) as u32, some_options(random));
+        let (mut owners_more, mut work_more) = (random.below(3) as i64, random.below(3) as i64);
+        match random.below(6) {
+            0 => options = bad_options(random),
+            1 => ranks = random.pick(&[0, n as u32 + 1, 257, u32::MAX]),
+            2 => site = sites::damaged(random, &site),
+            3 => owners_more = -1 - random.below(n as u64) as i64,
+            4 => work_more = -1 - random.below(40) as i64,
+            _ => {}
+        }
+        compare_one(check, random, &site, ranks, options, owners_more, work_more);
+    }
+}
+
+pub fn compare(report: &mut Report, seed: u64, count: u64) {
+    report.check("divisions of all graphs of up to four vertices", &[0, 6, 7, 8, 9], |check| small(check, &mut Random::new(seed)));
+    report.check("divisions of random sites", &[0, 6, 7, 8], |check| {
+        let mut random = Random::new(seed);
+        for i in 0..count {
+            let size = if i % 200 == 0 { 1500 } else if i % 20 == 0 { 300 } else { 40 };
+            let site = sites::any(&mut random, size);
+            let ranks = 1 + random.index(site.vertices().min(if i % 20 == 0 { 64 } else { 7 })) as u32;
+            let options = some_options(&mut random);
+            compare_one(check, &mut random, &site, ranks, options, 2, 5);
+        }
+    });
+    report.check("divisions of bad input", &[0, 1, 2, 3, 4, 5], |check| bad(check, &mut Random::new(seed), count));
+    report.check("divisions at the limits", &[0, 3], |check| {
+        let mut random = Random::new(seed);
+        let options = |max_levels| Options { max_levels, coarse_vertices_per_rank: 64, imbalance_per_mille: 30, refinement_passes: 2 };
+        for (site, ranks) in [(sites::grid(128, 128), 8), (sites::path(16_384), 256), (sites::star(16_384), 2), (sites::path(16_385), 2), (sites::clique(363), 3)] {
+            compare_one(check, &mut random, &site, ranks, options(12), 1, 1);
+        }
+        compare_one(check, &mut random, &sites::grid(20, 20), 16, options(32), 0, 0);
+    });
+}
