@@ -41,7 +41,13 @@ passing-ext p q zero f = refl
 passing-ext p q (suc n) f = rw (f n (omega arith), passing-ext p q n (λ i h. f i (omega arith)))
 
 -- q passes w too, which p does not
-passing-more : (p q : ℕ → Bool) (n w : ℕ) → w < n → p w ≡ false → q w ≡ true → ((i : ℕ) → i < n → (i ≡ w → ⊥) → p i ≡ true → q i ≡ true) → suc (passing p n) ≤ passing q n
+passing-more
+    : (p q : ℕ → Bool) (n w : ℕ)
+    → w < n
+    → p w ≡ false
+    → q w ≡ true
+    → ((i : ℕ) → i < n → (i ≡ w → ⊥) → p i ≡ true → q i ≡ true)
+    → suc (passing p n) ≤ passing q n
 unfolding passing
 passing-more p q zero w h a b f = absurd (omega arith)
 passing-more p q (suc n) w h a b f = split (eqb w n)
@@ -117,7 +123,14 @@ module _ (rows : List (List ℕ)) (sound : Sound rows) where
   mirror v u h e = sound .symmetric u v (below v u h e) h ∙ e
 
   module _ (seeds : List ℕ) (d e : ℕ → ℕ) (D : Distance rows seeds d) (E : Distance rows seeds e) where
-    step : (k v : ℕ) → ((u : ℕ) → u < length rows → e u ≤ k → e u < unassigned → d u ≤ e u) → v < length rows → e v ≤ suc k → e v < unassigned → Nearer rows e v → d v ≤ e v
+    step
+        : (k v : ℕ)
+        → ((u : ℕ) → u < length rows → e u ≤ k → e u < unassigned → d u ≤ e u)
+        → v < length rows
+        → e v ≤ suc k
+        → e v < unassigned
+        → Nearer rows e v
+        → d v ≤ e v
     step k v ih h l f r =
         let w = below v (r .0) h (r .1) in
         let a = r .2 in
@@ -285,4 +298,6 @@ module _ (rows : List (List ℕ)) (sound : Sound rows) (seeds : List ℕ) (few :
 
   -- whatever has the properties is rule 4's distances
   pub distances-are : (d : List ℕ) → length d ≡ length rows → Distance rows seeds (at d) → d ≡ distances rows seeds
-  distances-are d e L = ext-getD 0 d (distances rows seeds) (e ∙ sym distances-length) (λ i h. unique rows sound seeds (at d) (at (distances rows seeds)) L distances-hold i (rw e at h))
+  distances-are d e L =
+      ext-getD 0 d (distances rows seeds) (e ∙ sym distances-length)
+      (λ i h. unique rows sound seeds (at d) (at (distances rows seeds)) L distances-hold i (rw e at h))

@@ -47,7 +47,9 @@ module _ (l : GrowthRoom) (w : List ℕ) (h : GrowthLaid l (length w)) where
   unfolding rowsIn
   rows-all = length-rows (offsetsAt w (l .level)) _ ∙ n-is
 
-  pub lent : SoundLists (offsetsAt w (l .level)) (neighborsAt w (l .level)) → Lent (offsetsAt w (l .level)) (neighborsAt w (l .level)) (weightsIn l w) (ownersAt w (l .level))
+  pub lent
+      : SoundLists (offsetsAt w (l .level)) (neighborsAt w (l .level))
+      → Lent (offsetsAt w (l .level)) (neighborsAt w (l .level)) (weightsIn l w) (ownersAt w (l .level))
   lent s = record { lists = s; few = omega (arith, n-is); weights-all = weights-length ∙ sym n-is; owners-all = owners-length ∙ sym n-is }
 
 module _ {l : GrowthRoom} {w : List ℕ} (d : GrowthReady l w) (r : ℕ) (q : r < l .ranks) where
@@ -72,7 +74,8 @@ module _ {l : GrowthRoom} {w : List ℕ} (d : GrowthReady l w) (r : ℕ) (q : r 
 
   pub restart-post
       : (cap g : ℕ)
-      → held g ≡ best (higher lists-rows) (filter (opens cap (weightsIn l w) (ownersAt w (l .level)) (at w (l .loads + r))) (range 0 (vertexCount (offsetsAt w (l .level)))))
+      → held g ≡ best (higher lists-rows)
+      (filter (opens cap (weightsIn l w) (ownersAt w (l .level)) (at w (l .loads + r))) (range 0 (vertexCount (offsetsAt w (l .level)))))
       → held g ≡ restartIn cap l w r
   unfolding memoryIn memory rowsIn
   restart-post cap g e = rw (n-is l w (d .laid), read-load w (d .laid) r q) at e
@@ -153,7 +156,9 @@ module _ {l : GrowthRoom} {w : List ℕ} (cap r : ℕ) {h p n : ℕ} (d : Growth
 
   to : Sought (rowsIn l w) (memoryIn l w .links) ok (length (rowsIn l w)) (at (memoryIn l w .heads) r) (at (memoryIn l w .places) r) (at (memoryIn l w .counts) r) h p n
   to =
-      subst (λ (b : ℕ). Sought (rowsIn l w) (memoryIn l w .links) ok b (at (memoryIn l w .heads) r) (at (memoryIn l w .places) r) (at (memoryIn l w .counts) r) h p n) (sym (rows-all l w (d .laid)))
+      subst
+      (λ (b : ℕ). Sought (rowsIn l w) (memoryIn l w .links) ok b (at (memoryIn l w .heads) r) (at (memoryIn l w .places) r) (at (memoryIn l w .counts) r) h p n)
+      (sym (rows-all l w (d .laid)))
       (subst (λ (f : ℕ → Bool). Sought (rowsIn l w) (memoryIn l w .links) f (l .level .vertices) (at (memoryIn l w .heads) r) (at (memoryIn l w .places) r) (at (memoryIn l w .counts) r) h p n) ok-is t)
 
   pub found-pre : 0 < n → (h < l .level .vertices) × (p < degree (rowsIn l w) h)
@@ -179,7 +184,8 @@ module _ {l : GrowthRoom} {w : List ℕ} (cap r : ℕ) {h p n : ℕ} (d : Growth
   abbrev Found : ℕ → Memory → Type 0
   Found g m =
       ((g ≡ unassigned) × (filter (openTo cap (weightsIn l w) (m .owners) r) (frontOf (rowsIn l w) m r) ≡ []))
-      ⊎ ((xs : List ℕ) × (filter (openTo cap (weightsIn l w) (m .owners) r) (frontOf (rowsIn l w) m r) ≡ g ∷ xs) × (openTo cap (weightsIn l w) (m .owners) r g ≡ true))
+      ⊎
+      ((xs : List ℕ) × (filter (openTo cap (weightsIn l w) (m .owners) r) (frontOf (rowsIn l w) m r) ≡ g ∷ xs) × (openTo cap (weightsIn l w) (m .owners) r g ≡ true))
 
   found-now : (g : ℕ) → g ≡ candidateAt (rowsIn l w) h p n → Found g (parked (memoryIn l w) r h p n)
   unfolding candidateAt parked memory
@@ -269,7 +275,8 @@ module _ {l : GrowthRoom} {w : List ℕ} (cap r g : ℕ) (d : GrowthReady l w) (
     pub claim-begins : {w₂ : List ℕ} → at (memoryIn l w₁ .counts) r ≡ 0 → Stored l w₁ w₂ (begun (memoryIn l w₁) r g) → Claimed l w w₂ r g
     claim-begins z t =
         let z′ : at (memoryIn l w .counts) r ≡ 0 = sym counts-now ∙ z in
-        made (begun owned r g) (then (λ m. begun m r g) t) (begin-step (d .good) q few-ranks free in-rows z′) owners-begun (begin-front (d .good) q few-ranks free in-rows z′)
+        made (begun owned r g) (then (λ m. begun m r g) t) (begin-step (d .good) q few-ranks free in-rows z′) owners-begun
+        (begin-front (d .good) q few-ranks free in-rows z′)
 
     module _ (z : at (memoryIn l w₁ .counts) r ≡ 0 → ⊥) where
       some-count : at (memoryIn l w .counts) r ≡ suc (at (memoryIn l w .counts) r - 1)
@@ -284,7 +291,8 @@ module _ {l : GrowthRoom} {w : List ℕ} (cap r g : ℕ) (d : GrowthReady l w) (
       pub claim-appends : {w₂ : List ℕ} → Stored l w₁ w₂ (appended (memoryIn l w₁) r g) → Claimed l w w₂ r g
       claim-appends t =
           let c = at (memoryIn l w .counts) r - 1 in
-          made (appended owned r g) (then (λ m. appended m r g) t) (append-step (d .good) q few-ranks free in-rows c some-count) owners-appended (append-front (d .good) q few-ranks free in-rows c some-count)
+          made (appended owned r g) (then (λ m. appended m r g) t) (append-step (d .good) q few-ranks free in-rows c some-count) owners-appended
+          (append-front (d .good) q few-ranks free in-rows c some-count)
 
 -- ---- a turn
 
@@ -293,7 +301,8 @@ module _ {l : GrowthRoom} {w : List ℕ} (cap r : ℕ) (d : GrowthReady l w) (q 
   restart-held : restart cap (rowsIn l w) (weightsIn l w) (memoryIn l w .owners) r ≡ held f
   restart-held =
       restart-is cap (rowsIn l w) (weightsIn l w) (memoryIn l w .owners) r
-      ∙ ap₂ (λ (x n : ℕ). best (higher (rowsIn l w)) (filter (opens cap (weightsIn l w) (memoryIn l w .owners) x) (range 0 n))) (sym (d .good .loads-are r q)) (rows-all l w (d .laid))
+      ∙ ap₂ (λ (x n : ℕ). best (higher (rowsIn l w)) (filter (opens cap (weightsIn l w) (memoryIn l w .owners) x) (range 0 n))) (sym (d .good .loads-are r q))
+      (rows-all l w (d .laid))
       ∙ sym e
 
   pub restart-none : f ≡ unassigned → restart cap (rowsIn l w) (weightsIn l w) (memoryIn l w .owners) r ≡ none
@@ -332,7 +341,10 @@ module _ {l : GrowthRoom} {w w₁ : List ℕ} {cap r g : ℕ} (d : GrowthReady l
       (λ y. absurd (never z (open-facts cap (weightsIn l w) (memoryIn l w₁ .owners) (load (weightsIn l w) (memoryIn l w₁ .owners) r) g (y .2) .0)))
       (a .found)
 
-  restart-then : (o : Option ℕ) → restart cap (rowsIn l w₁) (weightsIn l w₁) (memoryIn l w₁ .owners) r ≡ o → restart cap (rowsIn l w) (weightsIn l w) (memoryIn l w₁ .owners) r ≡ o
+  restart-then
+      : (o : Option ℕ)
+      → restart cap (rowsIn l w₁) (weightsIn l w₁) (memoryIn l w₁ .owners) r ≡ o
+      → restart cap (rowsIn l w) (weightsIn l w) (memoryIn l w₁ .owners) r ≡ o
   restart-then o e = ap₂ (λ (R : List (List ℕ)) (W : List ℕ). restart cap R W (memoryIn l w₁ .owners) r) (sym rs) (sym ws) ∙ e
 
   few-ranks₁ : l .ranks < unassigned

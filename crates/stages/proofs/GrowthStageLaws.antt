@@ -193,10 +193,16 @@ module _ {w : List ℕ} {l : HierarchyLevel} {s k : ℕ} (P : Growable w l s k) 
       growth-is : (cap : ℕ) → growthIn cap (roomAt l s k) w₁ ≡ growthAt w l k cap
       unfolding roomAt rowsIn
       growth-is cap =
-          ap₂ (λ (R : List (List ℕ)) (W : List ℕ). weightedMultisource cap R W (part w₁ (s + 2 * l .vertices) (s + 2 * l .vertices + k))) (rows-kept w w₁ l s s (s + 2 * l .vertices + k) (P .level .laid) below (S .kept)) (weights-kept w w₁ l s s (s + 2 * l .vertices + k) (P .level .laid) below (S .kept))
+          ap₂ (λ (R : List (List ℕ)) (W : List ℕ). weightedMultisource cap R W (part w₁ (s + 2 * l .vertices) (s + 2 * l .vertices + k)))
+          (rows-kept w w₁ l s s (s + 2 * l .vertices + k) (P .level .laid) below (S .kept))
+          (weights-kept w w₁ l s s (s + 2 * l .vertices + k) (P .level .laid) below (S .kept))
           ∙ ap (weightedMultisource cap (rowsAt w l) (weightsAt w l)) (S .chosen)
 
-      pub told-grown : (cap : ℕ) {w₂ : List ℕ} {r : Grown} → tooHeavy cap (weightsAt w l) ≡ false → Multisource (roomAt l s k) cap w₁ w₂ r → GrownTold w w₂ l s k cap r
+      pub told-grown
+          : (cap : ℕ) {w₂ : List ℕ} {r : Grown}
+          → tooHeavy cap (weightsAt w l) ≡ false
+          → Multisource (roomAt l s k) cap w₁ w₂ r
+          → GrownTold w w₂ l s k cap r
       unfolding roomAt memoryIn memory
       told-grown cap {w₂} {r} h M =
           let f : tooFew (rowsAt w l) k ≡ false = le-ltb (length (rowsAt w l)) k (omega (arith, n-is)) in

@@ -148,7 +148,8 @@ module _ {l : GrowthRoom} {w : List ℕ} (b : Blank l w) where
         counts-all = n .6;
         loads-are = λ r q.
             b .loads-are r q
-            ∙ sym (ap (λ (o : List ℕ). load (weightsIn l w) o r) (b .owners-are) ∙ load-none (weightsIn l w) (l .level .vertices) r (λ e. omega (arith, few-ranks)));
+            ∙ sym
+            (ap (λ (o : List ℕ). load (weightsIn l w) o r) (b .owners-are) ∙ load-none (weightsIn l w) (l .level .vertices) r (λ e. omega (arith, few-ranks)));
         chains = λ r q. record { inside = rw (no-cells r q) tt; place-in = λ z. absurd (omega (arith, b .counts-are r q)) };
         distinct = λ r q. rw (no-cells r q) tt;
         owned = λ r x q h. absurd (false≢true (rw (no-cells r q) at h));
@@ -166,7 +167,9 @@ module _ {l : GrowthRoom} {w : List ℕ} (b : Blank l w) where
       record {
         outside = outside-refl l w;
         ready = blank-ready;
-        owners-are = b .owners-are ∙ sym (ap (λ (x : List ℕ). seedOwners (l .level .vertices) x (l .ranks)) (drop-of-length-le (seedsIn l w) {i = l .ranks} (omega (arith, S .all))));
+        owners-are =
+            b .owners-are
+            ∙ sym (ap (λ (x : List ℕ). seedOwners (l .level .vertices) x (l .ranks)) (drop-of-length-le (seedsIn l w) {i = l .ranks} (omega (arith, S .all))));
         counts-are = b .counts-are;
         loads-are = b .loads-are;
         fronts = λ d x y. absurd (omega arith);
@@ -280,7 +283,8 @@ seated-stands {l} {w} {w′} cap b t =
     record {
       owners-are = oe;
       fronts = λ d q.
-          subst (λ (o : List ℕ). filter (openTo cap W o d) (frontOf (rowsIn l w) (memoryIn l w′) d) ≡ filter (openTo cap W o d) (getD (map new seeds) d [])) (sym oe)
+          subst (λ (o : List ℕ). filter (openTo cap W o d) (frontOf (rowsIn l w) (memoryIn l w′) d) ≡ filter (openTo cap W o d) (getD (map new seeds) d []))
+          (sym oe)
           (ap (filter (openTo cap W os d)) (t .fronts d (omega arith) q)
           ∙ sym (ap (filter (openTo cap W os d)) (getD-mapped new seeds d (omega (arith, b .sown .seeds .all)))
           ∙ filter-sub (openTo cap W os d) (unowned os) (λ x e. and-l (unowned os x) (leb (load W os d + at W x) cap) e) (row (rowsIn l w) (at seeds d))));

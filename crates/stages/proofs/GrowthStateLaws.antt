@@ -262,7 +262,8 @@ module _ {rows : List (List ℕ)} {weights : List ℕ} {k : ℕ} {m : Memory} {r
     first-row = refl
 
     long : at (m .places) r ≤ length (concatMap (row rows) (cellsOf m r))
-    long = omega (arith, g .chains r l .place-in (omega (arith, z)), ap (λ (x : List ℕ). length (concatMap (row rows) x)) old, ap length first-row, length-append (row rows (at (m .heads) r)) later)
+    long =
+        omega (arith, g .chains r l .place-in (omega (arith, z)), ap (λ (x : List ℕ). length (concatMap (row rows) x)) old, ap length first-row, length-append (row rows (at (m .heads) r)) later)
 
     pub append-front : frontOf rows (appended (owning m r v (at weights v)) r v) r ≡ frontOf rows m r ++ row rows v
     unfolding appended owning memory frontOf front

@@ -44,7 +44,8 @@ module _ (cap : ℕ) (rows : List (List ℕ)) (weights : List ℕ) (s : Growing)
       → (turn cap rows weights s r .turn .choice ≡ claims g) × (turn cap rows weights s r .state ≡ claimed cap rows weights s r (popNow .frontier) g)
   unfolding turn chosen
   turn-claims g e =
-      let c : choice (popNow .claim) (restart cap rows weights (s .owners) r) ≡ claims g = ap (λ (o : Option ℕ). choice o (restart cap rows weights (s .owners) r)) e in
+      let c : choice (popNow .claim) (restart cap rows weights (s .owners) r) ≡ claims g =
+      ap (λ (o : Option ℕ). choice o (restart cap rows weights (s .owners) r)) e in
       (c, ap (chosen cap rows weights s r (popNow .frontier)) c)
 
   turn-restarts
@@ -171,7 +172,8 @@ module _ {cap : ℕ} {rows : List (List ℕ)} {weights : List ℕ} {k : ℕ} {m 
           record {
             owners-are = eo ∙ ap (λ (o : List ℕ). set o g r) so;
             fronts = λ d l.
-                subst (λ (o : List ℕ). filter (openTo cap weights o d) (frontOf rows m′ d) ≡ filter (openTo cap weights o d) (getD (fr (s .owners)) d [])) (sym eo)
+                subst (λ (o : List ℕ). filter (openTo cap weights o d) (frontOf rows m′ d) ≡ filter (openTo cap weights o d) (getD (fr (s .owners)) d []))
+                (sym eo)
                 (subst (λ (o : List ℕ). filter (openTo cap weights os d) (frontOf rows m′ d) ≡ filter (openTo cap weights os d) (getD (fr o) d [])) so (fronts-now d l));
             all-ranks = length-set (s .frontiers) r (f ++ filter (unowned (set (s .owners) g r)) (row rows g)) ∙ t .all-ranks;
           }

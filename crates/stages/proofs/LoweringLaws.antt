@@ -24,7 +24,8 @@ pub lies-kept
     → Lies rows w₀ l scratch
     → Lies rows w l scratch
 lies-kept rows w w₀ l s e k L =
-    let o : (v : ℕ) → v ≤ length rows → from w (l .offsets) v ≡ from w₀ (l .offsets) v = λ v h. k .below (l .offsets + v) (omega (arith, L .offsets-in, L .size)) in
+    let o : (v : ℕ) → v ≤ length rows → from w (l .offsets) v ≡ from w₀ (l .offsets) v =
+    λ v h. k .below (l .offsets + v) (omega (arith, L .offsets-in, L .size)) in
     record {
       sound = L .sound;
       size = L .size;
@@ -125,7 +126,8 @@ module _ {g : Search} {h : ℕ} {w₀ : List ℕ} {l : HierarchyLevel} {s u t₀
           let n : length (g .rows) ≡ l .vertices = P .lies .size in
           let r = room-at m in
           record {
-            scan = rw (← i′, ← t′) (lowers g (P .good) (from w s) (from w (s + l .vertices)) h t u (j - from w₀ (l .offsets) u) (T .scan) x i-in is (omega (arith, d-is)) (from w₂ s) (from w₂ (s + l .vertices))
+            scan =
+                rw (← i′, ← t′) (lowers g (P .good) (from w s) (from w (s + l .vertices)) h t u (j - from w₀ (l .offsets) u) (T .scan) x i-in is (omega (arith, d-is)) (from w₂ s) (from w₂ (s + l .vertices))
                 (getD-set-other w₁ (s + l .vertices + t) (s + x) x 0 (λ q. omega (arith, x-in))
                 ∙ getD-set-same w (s + x) (d + 1) 0 (relaxing .inside)
                 ∙ omega (arith, d-is))
@@ -144,7 +146,8 @@ module _ {g : Search} {h : ℕ} {w₀ : List ℕ} {l : HierarchyLevel} {s u t₀
     pass-turn m =
         let i′ : suc (j - from w₀ (l .offsets) u) ≡ j + 1 - from w₀ (l .offsets) u = omega arith in
         record {
-          scan = rw (← i′) (passed g (P .good) (from w s) (from w (s + l .vertices)) h t u (j - from w₀ (l .offsets) u) (T .scan) x i-in is (omega (arith, d-is)));
+          scan =
+              rw (← i′) (passed g (P .good) (from w s) (from w (s + l .vertices)) h t u (j - from w₀ (l .offsets) u) (T .scan) x i-in is (omega (arith, d-is)));
           kept = T .kept;
           same = T .same;
         }
@@ -200,7 +203,9 @@ module _ {g : Search} {w₀ : List ℕ} {l : HierarchyLevel} {s x : ℕ} (P : Lo
     low-scans u e k = record {
       good = P .good;
       lies = lies-kept (g .rows) w w₀ l s (s + 2 * l .vertices) (L .kept) (P .lies);
-      scan = subst (λ (x : ℕ). Scanning g (from w s) (from w (s + l .vertices)) h t x 0) (sym e) (first-one g (P .good) (from w s) (from w (s + l .vertices)) h t (L .run) k);
+      scan =
+          subst (λ (x : ℕ). Scanning g (from w s) (from w (s + l .vertices)) h t x 0) (sym e)
+          (first-one g (P .good) (from w s) (from w (s + l .vertices)) h t (L .run) k);
     }
 
     pub low-next : {w′ : List ℕ} {r : ℕ} → Scanned g h w w′ l s r → LoweredTo g w₀ w′ l s (h + 1) r

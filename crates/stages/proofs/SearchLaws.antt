@@ -75,7 +75,8 @@ module _ (g : Search) (good : Searchable g) where
               (λ p. omega (arith, ap d (eqb-true v (g .new) p) ∙ here))
               (λ p. absurd (omega (arith, other v h (eqb-false v (g .new) p))));
           counted =
-              passing-one (λ v. false) (λ v. ltb (d v) (g .start v)) n (g .new) (good .inside) refl (lt-ltb (d (g .new)) (g .start (g .new)) (omega (arith, good .fresh)))
+              passing-one (λ v. false) (λ v. ltb (d v) (g .start v)) n (g .new) (good .inside) refl
+              (lt-ltb (d (g .new)) (g .start (g .new)) (omega (arith, good .fresh)))
               (λ i l x. sym (le-ltb (d i) (g .start i) (omega (arith, other i l x))))
               ∙ ap suc (passing-zero (λ v. false) n (λ i l. refl));
           near = λ v h. split (eqb v (g .new))
@@ -256,7 +257,8 @@ module _ (g : Search) (good : Searchable g) where
                 (λ p. let e : getD (row (g .rows) u) i 0 ≡ w = ap (λ (z : ℕ). getD (row (g .rows) u) z 0) (eqb-true i j p) ∙ is in
                 omega (arith, ap d' e, here, u-same))
                 (λ p. let z = eqb-false i j p in
-                let b : getD (row (g .rows) u) i 0 < length (g .rows) = below (g .rows) (good .sound) u (getD (row (g .rows) u) i 0) u-in (in-getD (row (g .rows) u) i (omega arith)) in
+                let b : getD (row (g .rows) u) i 0 < length (g .rows) =
+                below (g .rows) (good .sound) u (getD (row (g .rows) u) i 0) u-in (in-getD (row (g .rows) u) i (omega arith)) in
                 omega (arith, less (getD (row (g .rows) u) i 0) b, S .done i (omega arith), u-same))
 
             -- a neighbor that is lowered

@@ -132,7 +132,8 @@ next-fresh rows seeds h =
     go b none e =
         let w = passing-gap (λ v. elem v seeds) (length rows) (omega (arith, passing-in seeds (length rows))) in
         let x : not (elem (w .0) seeds) ≡ false =
-        filter-none (λ v. not (elem v seeds)) 0 (length rows) (best-none b (filter (λ v. not (elem v seeds)) (vertices rows)) e) (w .0) (omega arith) (omega (arith, w .1)) in
+        filter-none (λ v. not (elem v seeds)) 0 (length rows) (best-none b (filter (λ v. not (elem v seeds)) (vertices rows)) e) (w .0) (omega arith)
+        (omega (arith, w .1)) in
         absurd (true≢false (rw (w .2) at x))
     go b (some s) e = (
       best-all b (λ x. x < length rows) (filter (λ v. not (elem v seeds)) (vertices rows)) s (below-n (λ v. not (elem v seeds)) (length rows)) e,
@@ -193,7 +194,8 @@ module _ {w : List ℕ} {l : HierarchyLevel} {s : ℕ} (R : Ready w l s) (room :
     v-in = vertex-in w l s R v v-low
 
     fits : from w (l .offsets) (v + 1) ≤ l .entries
-    fits = omega (arith, offsets-fit (offsetsAt w l) (neighborsAt w l) (R .lists) (v + 1) (omega (arith, v-in)), length-neighbors w l s R, offset-at (v + 1) (omega (arith, v-low)))
+    fits =
+        omega (arith, offsets-fit (offsetsAt w l) (neighborsAt w l) (R .lists) (v + 1) (omega (arith, v-in)), length-neighbors w l s R, offset-at (v + 1) (omega (arith, v-low)))
 
     step : from w (l .offsets) v + degree (rowsAt w l) v ≡ from w (l .offsets) (v + 1)
     step =
@@ -202,7 +204,8 @@ module _ {w : List ℕ} {l : HierarchyLevel} {s : ℕ} (R : Ready w l s) (room :
     entry : (i : ℕ) → i < degree (rowsAt w l) v → from w (l .neighbors) (from w (l .offsets) v + i) ≡ at (row (rowsAt w l) v) i
     entry i k =
         ap (λ (x : ℕ). from w (l .neighbors) (x + i)) (sym (offset-at v (omega (arith, v-low))))
-        ∙ sym (getD-part w (l .neighbors) (l .neighbors + l .entries) (at (offsetsAt w l) v + i) (omega (arith, offset-at v (omega (arith, v-low)), step, fits)))
+        ∙ sym
+        (getD-part w (l .neighbors) (l .neighbors + l .entries) (at (offsetsAt w l) v + i) (omega (arith, offset-at v (omega (arith, v-low)), step, fits)))
         ∙ sym (row-at (offsetsAt w l) (neighborsAt w l) (R .lists) v v-in i k)
 
   pub lies : Lies (rowsAt w l) w l s
@@ -311,12 +314,15 @@ module _ {w₀ : List ℕ} {l : HierarchyLevel} {s k : ℕ} (P : Seedable w₀ l
             distance = λ v m.
                 unique rows (lies₀ .sound) more (from w′ s) (at (distances rows more)) (L .distance) (distances-hold rows (lies₀ .sound) more (lies₀ .few)) v m
                 ∙ ap (λ (z : List ℕ). at (distances rows z) v) (sym grown);
-            kept = kept-trans s (s + 2 * l .vertices + k) w′ w₁ w₀ (kept-wide s (s + 2 * l .vertices) s (s + 2 * l .vertices + k) w′ w₁ (omega arith) (omega arith) (L .kept)) kept-seed;
+            kept =
+                kept-trans s (s + 2 * l .vertices + k) w′ w₁ w₀
+                (kept-wide s (s + 2 * l .vertices) s (s + 2 * l .vertices + k) w′ w₁ (omega arith) (omega arith) (L .kept)) kept-seed;
           }
 
   pub all-seeded : {w : List ℕ} {r : ℕ} → r ≡ k → SeededTo (rowsAt w₀ l) w₀ w l s k r → Seeded w₀ w l s k
   all-seeded {w} e K =
-      let m : length (part w s (s + l .vertices)) ≡ l .vertices = length-part w s (s + l .vertices) (omega arith) (omega (arith, distances-fit, K .kept .same-length)) ∙ omega arith in
+      let m : length (part w s (s + l .vertices)) ≡ l .vertices =
+      length-part w s (s + l .vertices) (omega arith) (omega (arith, distances-fit, K .kept .same-length)) ∙ omega arith in
       let F = farthestSeeds rows k in
       record {
         chosen = rw e at (K .chosen);

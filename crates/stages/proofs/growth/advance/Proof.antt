@@ -8,7 +8,9 @@ sought-requires : tie.Need-sought-requires
 sought-requires c κs = search needs
 
 found-requires : tie.Need-found-requires
-found-requires c κs = let a = c .before .before .before .before .args in (c .before .before .before .before .pre .0, found-pre (a .cap) (a .r) (c .before .before .before .before .pre .0) (c .before .before .before .before .pre .1) (c .before .sought .ensures))
+found-requires c κs =
+    let a = c .before .before .before .before .args in
+    (c .before .before .before .before .pre .0, found-pre (a .cap) (a .r) (c .before .before .before .before .pre .0) (c .before .before .before .before .pre .1) (c .before .sought .ensures))
 
 park-requires : tie.Need-park-requires
 park-requires c κs = search needs
@@ -19,7 +21,9 @@ same-length c = search needs
 returns : tie.Need-returns
 returns c =
     let a = c .before .before .before .before .before .before .before .before .before .args in
-    advance-is (a .cap) (a .r) (c .before .before .before .before .before .before .before .before .before .pre .0) (c .before .before .before .before .before .before .before .before .before .pre .1) (c .before .before .before .before .before .before .sought .ensures) (c .before .before .before .before .found .result) (c .before .before .before .before .found .ensures) (c .before .before .park .ensures)
+    advance-is (a .cap) (a .r) (c .before .before .before .before .before .before .before .before .before .pre .0)
+    (c .before .before .before .before .before .before .before .before .before .pre .1) (c .before .before .before .before .before .before .sought .ensures)
+    (c .before .before .before .before .found .result) (c .before .before .before .before .found .ensures) (c .before .before .park .ensures)
 
 pub advance-spec : {M : Type 1} → statement M
 advance-spec =

@@ -47,11 +47,13 @@ loop-again c =
     let a = c .before .before .before .before .before .before .args in
     let i = c .before .before .before .before .loop .i in (
       omega (arith, c .before .before .before .loop-test .taken),
-      sym (any-no (ltb (a .cap)) (a .weights .now) i (c .before .before .before .loop-test .taken) (le-ltb (a .cap) (at (a .weights .now) i) (rw (c .before .wide .ensures) at (c .if1 .left)))) ∙ c .before .before .before .before .loop .inv .1,
+      sym (any-no (ltb (a .cap)) (a .weights .now) i (c .before .before .before .loop-test .taken) (le-ltb (a .cap) (at (a .weights .now) i) (rw (c .before .wide .ensures) at (c .if1 .left))))
+          ∙ c .before .before .before .before .loop .inv .1,
     )
 
 returns-2 : tie.Need-returns-2 Inv-loop μ-loop
-returns-2 c = sym (sym (c .before .loop .inv .1) ∙ ap (tooHeavy (c .before .before .before .args .cap)) (drop-of-length-le (c .before .before .before .args .weights .now) (c .loop-test .left)))
+returns-2 c =
+    sym (sym (c .before .loop .inv .1) ∙ ap (tooHeavy (c .before .before .before .args .cap)) (drop-of-length-le (c .before .before .before .args .weights .now) (c .loop-test .left)))
 
 pub any-heavy-spec : {M : Type 1} → statement M
 any-heavy-spec =

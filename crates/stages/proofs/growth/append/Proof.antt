@@ -63,8 +63,14 @@ returns c =
     let a = c .before .before .before .before .before .before .before .before .before .before .before .before .before .before .before .before .args in
     let h = c .before .before .before .before .before .before .before .before .before .before .before .before .before .before .before .before .pre .0 in
     let q = c .before .before .before .before .before .before .before .before .before .before .before .before .before .before .before .before .pre .1 in
-    let t = c .before .before .before .before .before .before .before .before .before .before .before .before .before .index .ensures ∙ read-tail (a .work .now) h (a .r) q in
-    append-is h (a .r) q (c .before .before .before .before .before .before .before .before .before .before .before .before .before .index .result) _ (a .g) t (omega (arith, t, c .before .before .before .before .before .before .before .before .before .before .before .before .before .before .before .before .pre .3)) (ap (λ (x : ℕ). x + 1) (read-count (a .work .now) h (a .r) q)) (c .before .before .before .before .before .before .before .before .before .before .store .ensures) (c .before .before .before .before .before .before .store2 .ensures) (c .before .before .store3 .ensures)
+    let t =
+    c .before .before .before .before .before .before .before .before .before .before .before .before .before .index .ensures
+    ∙ read-tail (a .work .now) h (a .r) q in
+    append-is h (a .r) q (c .before .before .before .before .before .before .before .before .before .before .before .before .before .index .result) _ (a .g) t
+    (omega (arith, t, c .before .before .before .before .before .before .before .before .before .before .before .before .before .before .before .before .pre .3))
+    (ap (λ (x : ℕ). x + 1) (read-count (a .work .now) h (a .r) q))
+    (c .before .before .before .before .before .before .before .before .before .before .store .ensures)
+    (c .before .before .before .before .before .before .store2 .ensures) (c .before .before .store3 .ensures)
 
 pub append-spec : {M : Type 1} → statement M
 append-spec =

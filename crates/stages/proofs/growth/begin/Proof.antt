@@ -34,7 +34,11 @@ same-length c = search needs
 returns : tie.Need-returns
 returns c =
     let a = c .before .before .before .before .before .before .before .before .before .before .before .before .before .before .before .before .before .args in
-    begin-is (c .before .before .before .before .before .before .before .before .before .before .before .before .before .before .before .before .before .pre .0) (a .r) (c .before .before .before .before .before .before .before .before .before .before .before .before .before .before .before .before .before .pre .1) (a .g) (c .before .before .before .before .before .before .before .before .before .before .before .before .before .before .store .ensures) (c .before .before .before .before .before .before .before .before .before .before .store2 .ensures) (c .before .before .before .before .before .before .store3 .ensures) (c .before .before .store4 .ensures)
+    begin-is (c .before .before .before .before .before .before .before .before .before .before .before .before .before .before .before .before .before .pre .0)
+    (a .r) (c .before .before .before .before .before .before .before .before .before .before .before .before .before .before .before .before .before .pre .1)
+    (a .g) (c .before .before .before .before .before .before .before .before .before .before .before .before .before .before .store .ensures)
+    (c .before .before .before .before .before .before .before .before .before .before .store2 .ensures)
+    (c .before .before .before .before .before .before .store3 .ensures) (c .before .before .store4 .ensures)
 
 pub begin-spec : {M : Type 1} → statement M
 begin-spec =

@@ -15,18 +15,21 @@ unfolding stepBest
 returns c = rw (sym (c .before .before .is-open .ensures) ∙ c .before .if1 .taken, eq-eqb _ _ (c .if2 .taken))
 
 degree-of-requires : tie.Need-degree-of-requires
-degree-of-requires c κs = (c .before .before .before .before .before .before .before .pre .0 .lists, ⊎-elim (λ e. absurd (c .if2 .left e)) (λ h. h) (c .before .before .before .before .before .before .before .pre .2))
+degree-of-requires c κs =
+    (c .before .before .before .before .before .before .before .pre .0 .lists, ⊎-elim (λ e. absurd (c .if2 .left e)) (λ h. h) (c .before .before .before .before .before .before .before .pre .2))
 
 degree-of-requires-2 : tie.Need-degree-of-requires-2
 degree-of-requires-2 c κs = search needs
 
 returns-2 : tie.Need-returns-2
 unfolding stepBest
-returns-2 c = rw (sym (c .before .before .before .before .before .is-open .ensures) ∙ c .before .before .before .before .if1 .taken, ne-eqb _ _ (c .before .before .before .if2 .left), lt-ltb _ _ (rw (c .before .before .degree-of .ensures, c .before .degree-of2 .ensures) at (c .if3 .taken)))
+returns-2 c =
+    rw (sym (c .before .before .before .before .before .is-open .ensures) ∙ c .before .before .before .before .if1 .taken, ne-eqb _ _ (c .before .before .before .if2 .left), lt-ltb _ _ (rw (c .before .before .degree-of .ensures, c .before .degree-of2 .ensures) at (c .if3 .taken)))
 
 returns-3 : tie.Need-returns-3
 unfolding stepBest
-returns-3 c = rw (sym (c .before .before .before .before .before .is-open .ensures) ∙ c .before .before .before .before .if1 .taken, ne-eqb _ _ (c .before .before .before .if2 .left), le-ltb _ _ (rw (c .before .before .degree-of .ensures, c .before .degree-of2 .ensures) at (c .if3 .left)))
+returns-3 c =
+    rw (sym (c .before .before .before .before .before .is-open .ensures) ∙ c .before .before .before .before .if1 .taken, ne-eqb _ _ (c .before .before .before .if2 .left), le-ltb _ _ (rw (c .before .before .degree-of .ensures, c .before .degree-of2 .ensures) at (c .if3 .left)))
 
 returns-4 : tie.Need-returns-4
 unfolding stepBest

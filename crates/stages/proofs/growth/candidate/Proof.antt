@@ -10,7 +10,9 @@ unfolding candidateAt
 returns c = rw (eq-eqb _ _ (c .if1 .taken))
 
 neighbor-requires : tie.Need-neighbor-requires
-neighbor-requires c κs = let h = c .before .before .before .before .pre .1 (omega (arith, c .if1 .left)) in (c .before .before .before .before .pre .0, h .0, h .1)
+neighbor-requires c κs =
+    let h = c .before .before .before .before .pre .1 (omega (arith, c .if1 .left)) in
+    (c .before .before .before .before .pre .0, h .0, h .1)
 
 returns-2 : tie.Need-returns-2
 unfolding candidateAt

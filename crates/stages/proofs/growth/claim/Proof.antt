@@ -33,7 +33,9 @@ returns c =
     let a = c .before .before .before .before .before .before .before .before .before .before .before .args in
     let p = c .before .before .before .before .before .before .before .before .before .before .before .pre in
     let s = c .before .before .before .before .before .before .before .before .own .ensures in
-    claim-begins (a .cap) (a .r) (a .g) (p .0) (p .1) (p .2) s (sym (read-count (c .before .before .before .before .before .before .before .before .own .last .0) (laid-after (s .outside) (p .0 .laid)) (a .r) (p .1)) ∙ c .before .before .before .before .if1 .taken) (c .before .before .begin .ensures)
+    claim-begins (a .cap) (a .r) (a .g) (p .0) (p .1) (p .2) s
+    (sym (read-count (c .before .before .before .before .before .before .before .before .own .last .0) (laid-after (s .outside) (p .0 .laid)) (a .r) (p .1)) ∙ c .before .before .before .before .if1 .taken)
+    (c .before .before .begin .ensures)
 
 append-requires : tie.Need-append-requires
 append-requires c κs =
@@ -41,7 +43,9 @@ append-requires c κs =
     let p = c .before .before .before .before .before .before .before .before .pre in
     let s = c .before .before .before .before .before .own .ensures in
     let h = laid-after (s .outside) (p .0 .laid) in
-    let t = append-pre (a .cap) (a .r) (a .g) (p .0) (p .1) (p .2) s (λ e. c .before .if1 .left (read-count (c .before .before .before .before .before .own .last .0) h (a .r) (p .1) ∙ e)) in
+    let t =
+    append-pre (a .cap) (a .r) (a .g) (p .0) (p .1) (p .2) s
+    (λ e. c .before .if1 .left (read-count (c .before .before .before .before .before .own .last .0) h (a .r) (p .1) ∙ e)) in
     (h, p .1, t .0, t .1)
 
 same-length-2 : tie.Need-same-length-2
@@ -52,7 +56,9 @@ returns-2 c =
     let a = c .before .before .before .before .before .before .before .before .before .before .before .args in
     let p = c .before .before .before .before .before .before .before .before .before .before .before .pre in
     let s = c .before .before .before .before .before .before .before .before .own .ensures in
-    claim-appends (a .cap) (a .r) (a .g) (p .0) (p .1) (p .2) s (λ e. c .before .before .before .before .if1 .left (read-count (c .before .before .before .before .before .before .before .before .own .last .0) (laid-after (s .outside) (p .0 .laid)) (a .r) (p .1) ∙ e)) (c .before .before .append .ensures)
+    claim-appends (a .cap) (a .r) (a .g) (p .0) (p .1) (p .2) s
+    (λ e. c .before .before .before .before .if1 .left (read-count (c .before .before .before .before .before .before .before .before .own .last .0) (laid-after (s .outside) (p .0 .laid)) (a .r) (p .1) ∙ e))
+    (c .before .before .append .ensures)
 
 pub claim-spec : {M : Type 1} → statement M
 claim-spec =

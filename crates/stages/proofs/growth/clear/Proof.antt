@@ -26,7 +26,10 @@ same-length : tie.Need-same-length
 same-length c = search needs
 
 returns : tie.Need-returns
-returns c = clear-is (c .before .before .before .before .before .before .before .before .before .before .before .before .before .before .pre) (c .before .before .before .before .before .before .before .before .before .before .fill-part .ensures) (c .before .before .before .before .before .before .fill-part2 .ensures) (c .before .before .fill-part3 .ensures)
+returns c =
+    clear-is (c .before .before .before .before .before .before .before .before .before .before .before .before .before .before .pre)
+    (c .before .before .before .before .before .before .before .before .before .before .fill-part .ensures)
+    (c .before .before .before .before .before .before .fill-part2 .ensures) (c .before .before .fill-part3 .ensures)
 
 pub clear-spec : {M : Type 1} → statement M
 clear-spec =

@@ -24,10 +24,13 @@ shared-slice-read-result-2 : tie.Need-shared-slice-read-result-2
 shared-slice-read-result-2 c = search needs
 
 sub-result : tie.Need-sub-result
-sub-result c = rw (c .before .before .index .ensures) (c .before .before .before .before .before .pre .0 .rises (c .before .before .before .before .before .args .v) (c .before .before .before .before .before .pre .1))
+sub-result c =
+    rw (c .before .before .index .ensures) (c .before .before .before .before .before .pre .0 .rises (c .before .before .before .before .before .args .v) (c .before .before .before .before .before .pre .1))
 
 returns : tie.Need-returns
-returns c = let a = c .before .before .before .before .before .args in rw (c .before .before .index .ensures) (sym (length-row (a .offsets .now) (a .neighbors .now) (c .before .before .before .before .before .pre .0) (a .v) (c .before .before .before .before .before .pre .1)))
+returns c =
+    let a = c .before .before .before .before .before .args in
+    rw (c .before .before .index .ensures) (sym (length-row (a .offsets .now) (a .neighbors .now) (c .before .before .before .before .before .pre .0) (a .v) (c .before .before .before .before .before .pre .1)))
 
 pub degree-of-spec : {M : Type 1} → statement M
 degree-of-spec =

@@ -38,10 +38,14 @@ part-candidate-end-2 : tie.Need-part-candidate-end-2
 part-candidate-end-2 c = search needs
 
 candidate-requires : tie.Need-candidate-requires
-candidate-requires c κs = let a = c .before .before .before .before .args in found-lent (c .before .before .before .before .pre .0) (a .c .head) (a .c .place) (a .c .count) (c .before .before .before .before .pre .1)
+candidate-requires c κs =
+    let a = c .before .before .before .before .args in
+    found-lent (c .before .before .before .before .pre .0) (a .c .head) (a .c .place) (a .c .count) (c .before .before .before .before .pre .1)
 
 returns : tie.Need-returns
-returns c = let a = c .before .before .before .before .before .args in found-post (c .before .before .before .before .before .pre .0) (a .c .head) (a .c .place) (a .c .count) (c .candidate .result) (c .candidate .ensures)
+returns c =
+    let a = c .before .before .before .before .before .args in
+    found-post (c .before .before .before .before .before .pre .0) (a .c .head) (a .c .place) (a .c .count) (c .candidate .result) (c .candidate .ensures)
 
 pub found-spec : {M : Type 1} → statement M
 found-spec =

@@ -20,16 +20,23 @@ more-requires : tie.Need-more-requires Inv-loop μ-loop
 more-requires c κs = c .before .before .loop .inv .1 .ready
 
 add-restarts : tie.Need-add-restarts Inv-loop μ-loop
-add-restarts c = let g = c .before .before .before .before .before .before .loop .inv .1 in let h = c .before .before .before .before .before .before .before .before .before .pre .laid in record { fits = omega (arith, g .few, g .inside, h .enough, h .few, c .before .before .before .more .ensures .few) }
+add-restarts c =
+    let g = c .before .before .before .before .before .before .loop .inv .1 in
+    let h = c .before .before .before .before .before .before .before .before .before .pre .laid in
+    record { fits = omega (arith, g .few, g .inside, h .enough, h .few, c .before .before .before .more .ensures .few) }
 
 next-round-requires : tie.Need-next-round-requires Inv-loop μ-loop
 next-round-requires c κs = c .before .before .before .before .before .loop-test .taken
 
 loop-less : tie.Need-loop-less Inv-loop μ-loop
-loop-less c = next-less (c .before .before .before .before .before .before .before .before .before .before .args .room .level .vertices) (c .before .before .before .before .before .before .before .loop .i) (c .before .before .before .before .more .result .claims) (c .next-round .result) (c .before .before .before .before .before .before .loop-test .taken) (c .next-round .ensures)
+loop-less c =
+    next-less (c .before .before .before .before .before .before .before .before .before .before .args .room .level .vertices)
+    (c .before .before .before .before .before .before .before .loop .i) (c .before .before .before .before .more .result .claims) (c .next-round .result)
+    (c .before .before .before .before .before .before .loop-test .taken) (c .next-round .ensures)
 
 loop-again : tie.Need-loop-again Inv-loop μ-loop
-loop-again c = (refl, growth-step (c .before .before .before .before .before .before .before .before .before .before .pre) (c .before .before .before .before .before .before .before .loop .inv .1) (c .before .before .before .before .before .before .loop-test .taken) (c .before .before .before .before .more .ensures) (c .next-round .result) (c .next-round .ensures))
+loop-again c =
+    (refl, growth-step (c .before .before .before .before .before .before .before .before .before .before .pre) (c .before .before .before .before .before .before .before .loop .inv .1) (c .before .before .before .before .before .before .loop-test .taken) (c .before .before .before .before .more .ensures) (c .next-round .result) (c .next-round .ensures))
 
 vacant-in-requires : tie.Need-vacant-in-requires Inv-loop μ-loop
 vacant-in-requires c κs = c .before .before .loop .inv .1 .ready .laid
@@ -38,13 +45,17 @@ same-length : tie.Need-same-length Inv-loop μ-loop
 same-length c = c .before .before .before .before .loop .inv .1 .outside .same-length
 
 returns : tie.Need-returns Inv-loop μ-loop
-returns c = growth-done (variant.Refused 8) (c .before .before .before .before .loop .inv .1) (c .before .before .before .loop-test .left) (rw (sym (c .before .vacant-in .ensures) ∙ c .if1 .taken))
+returns c =
+    growth-done (variant.Refused 8) (c .before .before .before .before .loop .inv .1) (c .before .before .before .loop-test .left)
+    (rw (sym (c .before .vacant-in .ensures) ∙ c .if1 .taken))
 
 same-length-2 : tie.Need-same-length-2 Inv-loop μ-loop
 same-length-2 c = c .before .before .before .before .loop .inv .1 .outside .same-length
 
 returns-2 : tie.Need-returns-2 Inv-loop μ-loop
-returns-2 c = growth-done (variant.Owned (c .before .before .before .before .loop .restarts)) (c .before .before .before .before .loop .inv .1) (c .before .before .before .loop-test .left) (rw (sym (c .before .vacant-in .ensures) ∙ c .if1 .left))
+returns-2 c =
+    growth-done (variant.Owned (c .before .before .before .before .loop .restarts)) (c .before .before .before .before .loop .inv .1)
+    (c .before .before .before .loop-test .left) (rw (sym (c .before .vacant-in .ensures) ∙ c .if1 .left))
 
 pub grow-spec : {M : Type 1} → statement M
 grow-spec =

@@ -28,11 +28,13 @@ wide-requires-2 : tie.Need-wide-requires-2
 wide-requires-2 c κs = search needs
 
 add-result : tie.Need-add-result
-add-result c = record { fits = omega (arith, c .before .before .wide .ensures, c .wide2 .ensures, c .before .shared-slice-known4 .given (c .before .before .before .before .before .index .result), c .before .before .before .before .before .before .before .before .fits .load) }
+add-result c =
+    record { fits = omega (arith, c .before .before .wide .ensures, c .wide2 .ensures, c .before .shared-slice-known4 .given (c .before .before .before .before .before .index .result), c .before .before .before .before .before .before .before .before .fits .load) }
 
 returns : tie.Need-returns
 unfolding opens
-returns c = rw (c .before .before .wide .ensures, c .wide2 .ensures, c .before .before .before .before .before .index .ensures, eq-eqb _ _ (rw (c .before .before .before .before .before .index .ensures) at (c .before .before .before .if1 .taken)))
+returns c =
+    rw (c .before .before .wide .ensures, c .wide2 .ensures, c .before .before .before .before .before .index .ensures, eq-eqb _ _ (rw (c .before .before .before .before .before .index .ensures) at (c .before .before .before .if1 .taken)))
 
 returns-2 : tie.Need-returns-2
 unfolding opens

@@ -15,7 +15,9 @@ same-length : tie.Need-same-length
 same-length c = search needs
 
 returns : tie.Need-returns
-returns c = more-yes (sym (c .before .before .before .before .before .vacant-in .ensures) ∙ c .before .before .before .before .if1 .taken) (c .before .before .round .ensures)
+returns c =
+    more-yes (sym (c .before .before .before .before .before .vacant-in .ensures) ∙ c .before .before .before .before .if1 .taken)
+    (c .before .before .round .ensures)
 
 same-length-2 : tie.Need-same-length-2
 same-length-2 c = search needs

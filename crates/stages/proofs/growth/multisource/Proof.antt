@@ -19,7 +19,8 @@ same-length c = search needs
 returns : tie.Need-returns
 returns c =
     let b = c .before .before .before .before .before .before .before .before .before .before .clear .ensures in
-    multisource-after (c .before .before .before .before .before .before .before .before .before .before .before .before .before .pre) (b .outside) (multisource-is (b .blank) (c .before .before .before .before .before .before .seat-all .ensures) (c .before .before .grow .ensures))
+    multisource-after (c .before .before .before .before .before .before .before .before .before .before .before .before .before .pre) (b .outside)
+    (multisource-is (b .blank) (c .before .before .before .before .before .before .seat-all .ensures) (c .before .before .grow .ensures))
 
 pub multisource-spec : {M : Type 1} → statement M
 multisource-spec =

@@ -33,19 +33,25 @@ index-requires-3 c κs = search needs
 add-result : tie.Need-add-result
 add-result c =
     let a = c .before .before .before .before .before .before .args in
-    let h = inside (a .offsets .now) (a .neighbors .now) (c .before .before .before .before .before .before .pre .0) (a .v) (a .i) (c .before .before .before .before .before .before .pre .1) (c .before .before .before .before .before .before .pre .2) in
+    let h =
+    inside (a .offsets .now) (a .neighbors .now) (c .before .before .before .before .before .before .pre .0) (a .v) (a .i)
+    (c .before .before .before .before .before .before .pre .1) (c .before .before .before .before .before .before .pre .2) in
     record { fits = omega (arith, c .before .index2 .ensures, ap (at (a .offsets .now)) (c .before .before .before .index .ensures), c .index3 .ensures, c .before .before .before .before .before .before .good .1 .0) }
 
 mul-result : tie.Need-mul-result
 mul-result c =
     let a = c .before .before .before .before .before .before .args in
-    let h = inside (a .offsets .now) (a .neighbors .now) (c .before .before .before .before .before .before .pre .0) (a .v) (a .i) (c .before .before .before .before .before .before .pre .1) (c .before .before .before .before .before .before .pre .2) in
+    let h =
+    inside (a .offsets .now) (a .neighbors .now) (c .before .before .before .before .before .before .pre .0) (a .v) (a .i)
+    (c .before .before .before .before .before .before .pre .1) (c .before .before .before .before .before .before .pre .2) in
     omega (arith, c .before .index2 .ensures, ap (at (a .offsets .now)) (c .before .before .before .index .ensures), c .index3 .ensures, c .before .before .before .before .before .before .good .1)
 
 shared-slice-read-result : tie.Need-shared-slice-read-result
 shared-slice-read-result c =
     let a = c .before .before .before .before .before .before .before .args in
-    let h = inside (a .offsets .now) (a .neighbors .now) (c .before .before .before .before .before .before .before .pre .0) (a .v) (a .i) (c .before .before .before .before .before .before .before .pre .1) (c .before .before .before .before .before .before .before .pre .2) in
+    let h =
+    inside (a .offsets .now) (a .neighbors .now) (c .before .before .before .before .before .before .before .pre .0) (a .v) (a .i)
+    (c .before .before .before .before .before .before .before .pre .1) (c .before .before .before .before .before .before .before .pre .2) in
     omega (arith, c .before .before .index2 .ensures, ap (at (a .offsets .now)) (c .before .before .before .before .index .ensures), c .before .index3 .ensures)
 
 returns : tie.Need-returns

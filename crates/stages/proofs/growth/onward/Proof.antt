@@ -28,7 +28,9 @@ returns : tie.Need-returns
 returns c = inl (rw (c .before .degree-of .ensures) at (c .if1 .taken), refl, refl, refl)
 
 returns-2 : tie.Need-returns-2
-returns-2 c = inr (rw (c .before .before .before .degree-of .ensures) at (c .before .before .if1 .left), ap (at (c .before .before .before .before .before .before .before .args .links .now)) (c .before .index .ensures), refl, refl)
+returns-2 c =
+    inr
+    (rw (c .before .before .before .degree-of .ensures) at (c .before .before .if1 .left), ap (at (c .before .before .before .before .before .before .before .args .links .now)) (c .before .index .ensures), refl, refl)
 
 pub onward-spec : {M : Type 1} → statement M
 onward-spec =

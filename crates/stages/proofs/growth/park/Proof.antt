@@ -28,7 +28,10 @@ same-length c = search needs
 returns : tie.Need-returns
 returns c =
     let a = c .before .before .before .before .before .before .before .before .before .before .before .before .before .args in
-    park-is (c .before .before .before .before .before .before .before .before .before .before .before .before .before .pre .0) (a .r) (c .before .before .before .before .before .before .before .before .before .before .before .before .before .pre .1) (a .c .head) (a .c .place) (a .c .count) (c .before .before .before .before .before .before .before .before .before .before .store .ensures) (c .before .before .before .before .before .before .store2 .ensures) (c .before .before .store3 .ensures)
+    park-is (c .before .before .before .before .before .before .before .before .before .before .before .before .before .pre .0) (a .r)
+    (c .before .before .before .before .before .before .before .before .before .before .before .before .before .pre .1) (a .c .head) (a .c .place) (a .c .count)
+    (c .before .before .before .before .before .before .before .before .before .before .store .ensures)
+    (c .before .before .before .before .before .before .store2 .ensures) (c .before .before .store3 .ensures)
 
 pub park-spec : {M : Type 1} → statement M
 park-spec =

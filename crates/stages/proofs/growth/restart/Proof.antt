@@ -63,7 +63,8 @@ returns c =
     let a = c .before .before .before .before .before .before .args in
     let more : ℕ → ℕ → Bool = higher (rowsOf (a .offsets .now) (a .neighbors .now)) in
     let ok : ℕ → Bool = opens (a .cap) (a .weights .now) (a .owners .now) (a .load) in
-    sym (all-met more ok (vertexCount (a .offsets .now)) (c .before .loop .g) (held (c .before .loop .best)) (omega (arith, c .loop-test .left))) ∙ c .before .loop .inv .2
+    sym (all-met more ok (vertexCount (a .offsets .now)) (c .before .loop .g) (held (c .before .loop .best)) (omega (arith, c .loop-test .left)))
+    ∙ c .before .loop .inv .2
 
 pub restart-spec : {M : Type 1} → statement M
 restart-spec =

@@ -77,10 +77,16 @@ part-restart-end-4 : tie.Need-part-restart-end-4
 part-restart-end-4 c = search needs
 
 restart-requires : tie.Need-restart-requires
-restart-requires c κs = let a = c .before .before .before .before .before .before .before .args in lent (a .room) (a .w .now) (c .before .before .before .before .before .before .before .pre .0 .laid) (c .before .before .before .before .before .before .before .pre .0 .lists)
+restart-requires c κs =
+    let a = c .before .before .before .before .before .before .before .args in
+    lent (a .room) (a .w .now) (c .before .before .before .before .before .before .before .pre .0 .laid)
+    (c .before .before .before .before .before .before .before .pre .0 .lists)
 
 returns : tie.Need-returns
-returns c = let a = c .before .before .before .before .before .before .before .before .args in restart-post (c .before .before .before .before .before .before .before .before .pre .0) (a .r) (c .before .before .before .before .before .before .before .before .pre .1) (a .cap) (c .restart .result) (c .restart .ensures)
+returns c =
+    let a = c .before .before .before .before .before .before .before .before .args in
+    restart-post (c .before .before .before .before .before .before .before .before .pre .0) (a .r)
+    (c .before .before .before .before .before .before .before .before .pre .1) (a .cap) (c .restart .result) (c .restart .ensures)
 
 pub restart-for-spec : {M : Type 1} → statement M
 restart-for-spec =

@@ -25,13 +25,17 @@ claim-of-requires : tie.Need-claim-of-requires Inv-loop μ-loop
 claim-of-requires c κs = search needs
 
 add-claims : tie.Need-add-claims Inv-loop μ-loop
-add-claims c = let h = c .before .before .before .before .before .before .before .before .pre .laid in record { fits = omega (arith, c .before .before .before .before .before .before .loop .inv .1 .few .0, c .before .before .before .before .before .before .loop .inv .0, h .enough, h .few, c .claim-of .ensures, one-or (eqb (c .before .before .before .turn .result) 0)) }
+add-claims c =
+    let h = c .before .before .before .before .before .before .before .before .pre .laid in
+    record { fits = omega (arith, c .before .before .before .before .before .before .loop .inv .1 .few .0, c .before .before .before .before .before .before .loop .inv .0, h .enough, h .few, c .claim-of .ensures, one-or (eqb (c .before .before .before .turn .result) 0)) }
 
 restart-of-requires : tie.Need-restart-of-requires Inv-loop μ-loop
 restart-of-requires c κs = search needs
 
 add-restarts : tie.Need-add-restarts Inv-loop μ-loop
-add-restarts c = let h = c .before .before .before .before .before .before .before .before .before .pre .laid in record { fits = omega (arith, c .before .before .before .before .before .before .before .loop .inv .1 .few .1, c .before .before .before .before .before .before .before .loop .inv .0, h .enough, h .few, c .restart-of .ensures, or-one (eqb (c .before .before .before .before .turn .result) 2)) }
+add-restarts c =
+    let h = c .before .before .before .before .before .before .before .before .before .pre .laid in
+    record { fits = omega (arith, c .before .before .before .before .before .before .before .loop .inv .1 .few .1, c .before .before .before .before .before .before .before .loop .inv .0, h .enough, h .few, c .restart-of .ensures, or-one (eqb (c .before .before .before .before .turn .result) 2)) }
 
 add-r : tie.Need-add-r Inv-loop μ-loop
 add-r c = search needs
@@ -43,7 +47,9 @@ loop-again : tie.Need-loop-again Inv-loop μ-loop
 loop-again c =
     let e = c .before .before .before .before .turn .ensures in (
       omega (arith, c .before .before .before .before .before .before .loop-test .taken),
-      round-step (c .before .before .before .before .before .before .before .before .before .pre) (c .before .before .before .before .before .before .before .loop .inv .1) e (c .before .claim-of .result) (c .restart-of .result) (c .before .claim-of .ensures) (c .restart-of .ensures),
+      round-step (c .before .before .before .before .before .before .before .before .before .pre)
+          (c .before .before .before .before .before .before .before .loop .inv .1) e (c .before .claim-of .result) (c .restart-of .result)
+          (c .before .claim-of .ensures) (c .restart-of .ensures),
     )
 
 same-length : tie.Need-same-length Inv-loop μ-loop

@@ -19,7 +19,9 @@ same-length : tie.Need-same-length
 same-length c = search needs
 
 returns : tie.Need-returns
-returns c = let a = c .before .before .before .before .before .before .before .before .before .args in seat-is (a .r) (a .g) (c .before .before .before .before .before .before .own .ensures) (c .before .before .begin .ensures)
+returns c =
+    let a = c .before .before .before .before .before .before .before .before .before .args in
+    seat-is (a .r) (a .g) (c .before .before .before .before .before .before .own .ensures) (c .before .before .begin .ensures)
 
 pub seat-spec : {M : Type 1} → statement M
 seat-spec = tie.close (tie.spec own-requires begin-requires same-length returns)

@@ -23,20 +23,28 @@ sub-r : tie.Need-sub-r Inv-loop μ-loop
 sub-r c = c .loop-test .taken
 
 add-g : tie.Need-add-g Inv-loop μ-loop
-add-g c = let b = c .before .before .before .pre in record { fits = omega (arith, c .before .loop .inv .0, c .before .before .before .good .0 .0, b .sown .laid .seeds-in, b .sown .laid .links-in, b .sown .laid .loads-in, b .sown .laid .heads-in, b .sown .laid .tails-in, b .sown .laid .places-in, b .sown .laid .counts-in) }
+add-g c =
+    let b = c .before .before .before .pre in
+    record { fits = omega (arith, c .before .loop .inv .0, c .before .before .before .good .0 .0, b .sown .laid .seeds-in, b .sown .laid .links-in, b .sown .laid .loads-in, b .sown .laid .heads-in, b .sown .laid .tails-in, b .sown .laid .places-in, b .sown .laid .counts-in) }
 
 mul-g : tie.Need-mul-g Inv-loop μ-loop
-mul-g c = let b = c .before .before .before .pre in omega (arith, c .loop-test .taken, c .before .loop .inv .0, c .before .before .before .good .0, b .sown .laid .seeds-in, b .sown .laid .links-in, b .sown .laid .loads-in, b .sown .laid .heads-in, b .sown .laid .tails-in, b .sown .laid .places-in, b .sown .laid .counts-in)
+mul-g c =
+    let b = c .before .before .before .pre in
+    omega (arith, c .loop-test .taken, c .before .loop .inv .0, c .before .before .before .good .0, b .sown .laid .seeds-in, b .sown .laid .links-in, b .sown .laid .loads-in, b .sown .laid .heads-in, b .sown .laid .tails-in, b .sown .laid .places-in, b .sown .laid .counts-in)
 
 slice-read-g : tie.Need-slice-read-g Inv-loop μ-loop
-slice-read-g c = let b = c .before .before .before .before .pre in omega (arith, c .before .loop-test .taken, c .before .before .loop .inv .0, c .before .before .loop .inv .2, b .sown .laid .seeds-in, b .sown .laid .links-in, b .sown .laid .loads-in, b .sown .laid .heads-in, b .sown .laid .tails-in, b .sown .laid .places-in, b .sown .laid .counts-in)
+slice-read-g c =
+    let b = c .before .before .before .before .pre in
+    omega (arith, c .before .loop-test .taken, c .before .before .loop .inv .0, c .before .before .loop .inv .2, b .sown .laid .seeds-in, b .sown .laid .links-in, b .sown .laid .loads-in, b .sown .laid .heads-in, b .sown .laid .tails-in, b .sown .laid .places-in, b .sown .laid .counts-in)
 
 seat-requires : tie.Need-seat-requires Inv-loop μ-loop
 seat-requires c κs =
     let l = c .before .before .before .loop in
     let e : l .r ≡ suc (l .r - 1) = omega (arith, c .before .before .loop-test .taken) in
     let q : l .r - 1 < c .before .before .before .before .before .args .room .ranks = omega (arith, l .inv .0, c .before .before .loop-test .taken) in
-    let t : Seated (c .before .before .before .before .before .args .room) (c .before .before .before .before .before .args .work .now) (l .work) (suc (l .r - 1)) = subst (Seated (c .before .before .before .before .before .args .room) (c .before .before .before .before .before .args .work .now) (l .work)) e (l .inv .3 (c .before .before .before .before .before .pre)) in
+    let t : Seated (c .before .before .before .before .before .args .room) (c .before .before .before .before .before .args .work .now) (l .work) (suc (l .r - 1)) =
+    subst (Seated (c .before .before .before .before .before .args .room) (c .before .before .before .before .before .args .work .now) (l .work)) e
+    (l .inv .3 (c .before .before .before .before .before .pre)) in
     let p = seat-pre (c .before .before .before .before .before .pre) (l .r - 1) q t in
     (p .0, q, rw (seed-at (c .before .before .before .before .before .pre) (l .r - 1) q t) (p .1), p .2)
 
@@ -54,9 +62,12 @@ loop-again c =
       c .before .before .seat .kept .0 ∙ l .inv .2,
       λ b.
           let room = c .before .before .before .before .before .before .before .before .args .room in
-          let t : Seated room (c .before .before .before .before .before .before .before .before .args .work .now) w (suc (l .r - 1)) = subst (Seated room (c .before .before .before .before .before .before .before .before .args .work .now) w) e (l .inv .3 b) in
+          let t : Seated room (c .before .before .before .before .before .before .before .before .args .work .now) w (suc (l .r - 1)) =
+          subst (Seated room (c .before .before .before .before .before .before .before .before .args .work .now) w) e (l .inv .3 b) in
           let s : Stored room w (c .before .before .seat .last .0) (begun (owning (memoryIn room w) (l .r - 1) (at (seedsIn room (c .before .before .before .before .before .before .before .before .args .work .now)) (l .r - 1)) (at (weightsIn room w) (at (seedsIn room (c .before .before .before .before .before .before .before .before .args .work .now)) (l .r - 1)))) (l .r - 1) (at (seedsIn room (c .before .before .before .before .before .before .before .before .args .work .now)) (l .r - 1))) =
-          subst (λ (g : ℕ). Stored room w (c .before .before .seat .last .0) (begun (owning (memoryIn room w) (l .r - 1) g (at (weightsIn room w) g)) (l .r - 1) g)) (seed-at b (l .r - 1) q t) (c .before .before .seat .ensures) in
+          subst
+          (λ (g : ℕ). Stored room w (c .before .before .seat .last .0) (begun (owning (memoryIn room w) (l .r - 1) g (at (weightsIn room w) g)) (l .r - 1) g))
+          (seed-at b (l .r - 1) q t) (c .before .before .seat .ensures) in
           seated-step b (l .r - 1) q t s,
     )
 
@@ -64,7 +75,10 @@ same-length : tie.Need-same-length Inv-loop μ-loop
 same-length c = c .before .loop .inv .2
 
 returns : tie.Need-returns Inv-loop μ-loop
-returns c = let z : c .before .loop .r ≡ 0 = omega (arith, c .loop-test .left) in subst (Seated (c .before .before .before .args .room) (c .before .before .before .args .work .now) (c .before .loop .work)) z (c .before .loop .inv .3 (c .before .before .before .pre))
+returns c =
+    let z : c .before .loop .r ≡ 0 = omega (arith, c .loop-test .left) in
+    subst (Seated (c .before .before .before .args .room) (c .before .before .before .args .work .now) (c .before .loop .work)) z
+    (c .before .loop .inv .3 (c .before .before .before .pre))
 
 pub seat-all-spec : {M : Type 1} → statement M
 seat-all-spec =

@@ -20,7 +20,8 @@ abbrev μ-loop : tie.MeasureT-loop
 loop-holds : tie.Need-loop-holds Inv-loop μ-loop
 loop-holds c =
     let a = c .before .before .before .before .before .args in
-    going-start (rowsOf (a .offsets .now) (a .neighbors .now)) (a .links .now) (opens (a .cap) (a .weights .now) (a .owners .now) (a .load)) (vertexCount (a .offsets .now)) (a .from .head) (a .from .place) (a .from .count) (c .before .before .before .before .before .pre .2)
+    going-start (rowsOf (a .offsets .now) (a .neighbors .now)) (a .links .now) (opens (a .cap) (a .weights .now) (a .owners .now) (a .load))
+    (vertexCount (a .offsets .now)) (a .from .head) (a .from .place) (a .from .count) (c .before .before .before .before .before .pre .2)
 
 stops-requires : tie.Need-stops-requires Inv-loop μ-loop
 stops-requires c κs =
@@ -32,7 +33,8 @@ onward-requires c κs =
     let a = c .before .before .before .before .before .before .before .before .args in
     let l = c .before .before .loop in
     let some : 0 < l .count =
-    left-some (rowsOf (a .offsets .now) (a .neighbors .now)) (opens (a .cap) (a .weights .now) (a .owners .now) (a .load)) (l .head) (l .place) (l .count) (sym (c .before .stops .ensures) ∙ not-true (c .before .stops .result) (c .if1 .taken)) in
+    left-some (rowsOf (a .offsets .now) (a .neighbors .now)) (opens (a .cap) (a .weights .now) (a .owners .now) (a .load)) (l .head) (l .place) (l .count)
+    (sym (c .before .stops .ensures) ∙ not-true (c .before .stops .result) (c .if1 .taken)) in
     (c .before .before .before .before .before .before .before .before .pre .0 .lists, c .before .before .before .before .before .before .before .before .pre .1, head-in (a .links .now) (vertexCount (a .offsets .now)) (l .head) (l .count) (l .inv .inside) some, some)
 
 loop-less : tie.Need-loop-less Inv-loop μ-loop
@@ -40,16 +42,20 @@ loop-less c =
     let a = c .before .before .before .before .before .before .before .before .before .args in
     let l = c .before .before .before .loop in
     let r = c .onward .result in
-    going-on (rowsOf (a .offsets .now) (a .neighbors .now)) (a .links .now) (opens (a .cap) (a .weights .now) (a .owners .now) (a .load)) (vertexCount (a .offsets .now)) (a .from .head) (a .from .place) (a .from .count)
-    (l .head) (l .place) (l .count) (r .head) (r .place) (r .count) (l .inv) (sym (c .before .before .stops .ensures) ∙ not-true (c .before .before .stops .result) (c .before .if1 .taken)) (c .onward .ensures) .1
+    going-on (rowsOf (a .offsets .now) (a .neighbors .now)) (a .links .now) (opens (a .cap) (a .weights .now) (a .owners .now) (a .load))
+    (vertexCount (a .offsets .now)) (a .from .head) (a .from .place) (a .from .count)
+    (l .head) (l .place) (l .count) (r .head) (r .place) (r .count) (l .inv)
+    (sym (c .before .before .stops .ensures) ∙ not-true (c .before .before .stops .result) (c .before .if1 .taken)) (c .onward .ensures) .1
 
 loop-again : tie.Need-loop-again Inv-loop μ-loop
 loop-again c =
     let a = c .before .before .before .before .before .before .before .before .before .args in
     let l = c .before .before .before .loop in
     let r = c .onward .result in
-    going-on (rowsOf (a .offsets .now) (a .neighbors .now)) (a .links .now) (opens (a .cap) (a .weights .now) (a .owners .now) (a .load)) (vertexCount (a .offsets .now)) (a .from .head) (a .from .place) (a .from .count)
-    (l .head) (l .place) (l .count) (r .head) (r .place) (r .count) (l .inv) (sym (c .before .before .stops .ensures) ∙ not-true (c .before .before .stops .result) (c .before .if1 .taken)) (c .onward .ensures) .0
+    going-on (rowsOf (a .offsets .now) (a .neighbors .now)) (a .links .now) (opens (a .cap) (a .weights .now) (a .owners .now) (a .load))
+    (vertexCount (a .offsets .now)) (a .from .head) (a .from .place) (a .from .count)
+    (l .head) (l .place) (l .count) (r .head) (r .place) (r .count) (l .inv)
+    (sym (c .before .before .stops .ensures) ∙ not-true (c .before .before .stops .result) (c .before .if1 .taken)) (c .onward .ensures) .0
 
 returns : tie.Need-returns Inv-loop μ-loop
 returns c = record { going = c .before .before .loop .inv; stopped = sym (c .before .stops .ensures) ∙ not-false (c .before .stops .result) (c .if1 .left) }

@@ -105,10 +105,14 @@ part-seek-end-4 : tie.Need-part-seek-end-4
 part-seek-end-4 c = search needs
 
 add-seek-6 : tie.Need-add-seek-6
-add-seek-6 c = let h = c .before .before .before .before .before .before .before .before .before .before .pre .0 .laid in record { fits = omega (arith, h .links-in, h .loads-in, h .heads-in, h .tails-in, h .places-in, h .counts-in, c .before .before .before .before .before .before .before .before .before .before .good .0) }
+add-seek-6 c =
+    let h = c .before .before .before .before .before .before .before .before .before .before .pre .0 .laid in
+    record { fits = omega (arith, h .links-in, h .loads-in, h .heads-in, h .tails-in, h .places-in, h .counts-in, c .before .before .before .before .before .before .before .before .before .before .good .0) }
 
 mul-seek-5 : tie.Need-mul-seek-5
-mul-seek-5 c = let h = c .before .before .before .before .before .before .before .before .before .before .pre .0 .laid in omega (arith, h .links-in, h .loads-in, h .heads-in, h .tails-in, h .places-in, h .counts-in, c .before .before .before .before .before .before .before .before .before .before .good .0)
+mul-seek-5 c =
+    let h = c .before .before .before .before .before .before .before .before .before .before .pre .0 .laid in
+    omega (arith, h .links-in, h .loads-in, h .heads-in, h .tails-in, h .places-in, h .counts-in, c .before .before .before .before .before .before .before .before .before .before .good .0)
 
 sub-seek-5 : tie.Need-sub-seek-5
 sub-seek-5 c = search needs
@@ -117,7 +121,9 @@ part-seek-start-5 : tie.Need-part-seek-start-5
 part-seek-start-5 c = search needs
 
 part-seek-end-5 : tie.Need-part-seek-end-5
-part-seek-end-5 c = let h = c .before .before .before .before .before .before .before .before .before .before .pre .0 .laid in omega (arith, h .links-in, h .loads-in, h .heads-in, h .tails-in, h .places-in, h .counts-in)
+part-seek-end-5 c =
+    let h = c .before .before .before .before .before .before .before .before .before .before .pre .0 .laid in
+    omega (arith, h .links-in, h .loads-in, h .heads-in, h .tails-in, h .places-in, h .counts-in)
 
 seek-requires : tie.Need-seek-requires
 seek-requires c κs =
@@ -129,7 +135,9 @@ returns : tie.Need-returns
 returns c =
     let a = c .before .before .before .before .before .before .before .before .before .before .before .before .args in
     let s = c .seek .result in
-    seek-post (c .before .before .before .before .before .before .before .before .before .before .before .before .pre .0) (a .r) (c .before .before .before .before .before .before .before .before .before .before .before .before .pre .1) (a .cap) (s .head) (s .place) (s .count) (c .seek .ensures)
+    seek-post (c .before .before .before .before .before .before .before .before .before .before .before .before .pre .0) (a .r)
+    (c .before .before .before .before .before .before .before .before .before .before .before .before .pre .1) (a .cap) (s .head) (s .place) (s .count)
+    (c .seek .ensures)
 
 pub sought-spec : {M : Type 1} → statement M
 sought-spec =

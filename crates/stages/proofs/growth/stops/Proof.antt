@@ -13,10 +13,12 @@ unfolding stopsAt
 returns c = rw (eq-eqb _ _ (c .if1 .taken))
 
 degree-of-requires : tie.Need-degree-of-requires
-degree-of-requires c κs = (c .before .before .before .before .before .pre .0 .lists, c .before .before .before .before .before .pre .1 (omega (arith, c .if1 .left)))
+degree-of-requires c κs =
+    (c .before .before .before .before .before .pre .0 .lists, c .before .before .before .before .before .pre .1 (omega (arith, c .if1 .left)))
 
 neighbor-requires : tie.Need-neighbor-requires
-neighbor-requires c κs = (c .before .before .before .before .before .before .before .pre .0 .lists, c .before .before .before .before .before .before .before .pre .1 (omega (arith, c .before .before .if1 .left)), rw (c .before .degree-of .ensures) at (c .if2 .taken))
+neighbor-requires c κs =
+    (c .before .before .before .before .before .before .before .pre .0 .lists, c .before .before .before .before .before .before .before .pre .1 (omega (arith, c .before .before .if1 .left)), rw (c .before .degree-of .ensures) at (c .if2 .taken))
 
 is-open-requires : tie.Need-is-open-requires
 is-open-requires c κs =
@@ -28,7 +30,8 @@ is-open-requires c κs =
 
 returns-2 : tie.Need-returns-2
 unfolding stopsAt
-returns-2 c = rw (ne-eqb _ _ (c .before .before .before .before .if1 .left), lt-ltb _ _ (rw (c .before .before .before .degree-of .ensures) at (c .before .before .if2 .taken)), ← (c .before .neighbor .ensures)) (c .is-open .ensures)
+returns-2 c =
+    rw (ne-eqb _ _ (c .before .before .before .before .if1 .left), lt-ltb _ _ (rw (c .before .before .before .degree-of .ensures) at (c .before .before .if2 .taken)), ← (c .before .neighbor .ensures)) (c .is-open .ensures)
 
 returns-3 : tie.Need-returns-3
 unfolding stopsAt

@@ -22,7 +22,8 @@ returns c =
     let p = c .before .before .before .before .before .before .before .before .before .before .pre in
     let a = c .before .before .before .before .before .before .before .advance .ensures in
     let z = c .before .before .before .before .if1 .taken in
-    turn-claim (p .0) (p .1) a (c .before .before .before .before .before .before .before .advance .result) (c .before .before .claim .ensures) (advanced-open (p .0) (p .1) a z) refl z
+    turn-claim (p .0) (p .1) a (c .before .before .before .before .before .before .before .advance .result) (c .before .before .claim .ensures)
+    (advanced-open (p .0) (p .1) a z) refl z
 
 restart-for-requires : tie.Need-restart-for-requires
 restart-for-requires c κs = search needs
@@ -43,7 +44,8 @@ returns-2 c =
     let a = c .before .before .before .before .before .before .before .before .before .before .advance .ensures in
     let f = c .before .before .before .before .before .restart-for in
     let z = c .before .before .before .before .if2 .taken in
-    turn-restart (p .0) (p .1) a (f .result) (c .before .before .claim2 .ensures) (restart-open (b .cap) (b .r) (a .ready) (p .1) (f .result) (f .ensures) z) (c .before .before .before .before .before .before .before .if1 .left) (restart-some (b .cap) (b .r) (a .ready) (p .1) (f .result) (f .ensures) z)
+    turn-restart (p .0) (p .1) a (f .result) (c .before .before .claim2 .ensures) (restart-open (b .cap) (b .r) (a .ready) (p .1) (f .result) (f .ensures) z)
+    (c .before .before .before .before .before .before .before .if1 .left) (restart-some (b .cap) (b .r) (a .ready) (p .1) (f .result) (f .ensures) z)
 
 same-length-3 : tie.Need-same-length-3
 same-length-3 c = search needs

@@ -15,22 +15,28 @@ same-length : tie.Need-same-length
 same-length c = search needs
 
 returns : tie.Need-returns
-returns c = told-heavy (c .before .before .before .before .pre) (c .before .before .before .before .args .cap) (sym (c .before .heavy-in .ensures) ∙ c .if1 .taken)
+returns c =
+    told-heavy (c .before .before .before .before .pre) (c .before .before .before .before .args .cap) (sym (c .before .heavy-in .ensures) ∙ c .if1 .taken)
 
 same-length-2 : tie.Need-same-length-2
 same-length-2 c = search needs
 
 returns-2 : tie.Need-returns-2
-returns-2 c = told-few (c .before .before .before .before .before .pre) (c .before .before .before .before .before .args .cap) (sym (c .before .before .heavy-in .ensures) ∙ c .before .if1 .left) (c .if2 .taken)
+returns-2 c =
+    told-few (c .before .before .before .before .before .pre) (c .before .before .before .before .before .args .cap)
+    (sym (c .before .before .heavy-in .ensures) ∙ c .before .if1 .left) (c .if2 .taken)
 
 farthest-seeds-requires : tie.Need-farthest-seeds-requires
 farthest-seeds-requires c κs = seedable (c .before .before .before .before .before .before .pre) (c .before .if2 .left)
 
 room-at-requires : tie.Need-room-at-requires
-room-at-requires c κs = omega (arith, c .before .before .before .before .before .before .before .before .before .before .pre .room, c .before .before .before .before .before .before .before .before .before .before .good .0)
+room-at-requires c κs =
+    omega (arith, c .before .before .before .before .before .before .before .before .before .before .pre .room, c .before .before .before .before .before .before .before .before .before .before .good .0)
 
 multisource-requires : tie.Need-multisource-requires
-multisource-requires c κs = subst (λ (l : GrowthRoom). Sown l (c .before .before .before .before .farthest-seeds .last .0)) (sym (c .room-at .ensures)) (sown (c .before .before .before .before .before .before .before .before .before .before .before .pre) (c .before .before .before .before .before .before .if2 .left) (c .before .before .before .before .farthest-seeds .ensures))
+multisource-requires c κs =
+    subst (λ (l : GrowthRoom). Sown l (c .before .before .before .before .farthest-seeds .last .0)) (sym (c .room-at .ensures))
+    (sown (c .before .before .before .before .before .before .before .before .before .before .before .pre) (c .before .before .before .before .before .before .if2 .left) (c .before .before .before .before .farthest-seeds .ensures))
 
 same-length-3 : tie.Need-same-length-3
 same-length-3 c = search needs
@@ -39,8 +45,13 @@ returns-3 : tie.Need-returns-3
 returns-3 c =
     let a = c .before .before .before .before .before .before .before .before .before .before .before .before .before .before .args in
     let M : Multisource (roomAt (a .l) (a .scratch) (a .ranks)) (a .cap) (c .before .before .before .before .before .before .before .farthest-seeds .last .0) (c .before .before .multisource .last .0) (c .before .before .multisource .result) =
-    subst (λ (l : GrowthRoom). Multisource l (a .cap) (c .before .before .before .before .before .before .before .farthest-seeds .last .0) (c .before .before .multisource .last .0) (c .before .before .multisource .result)) (c .before .before .before .room-at .ensures) (c .before .before .multisource .ensures) in
-    told-grown (c .before .before .before .before .before .before .before .before .before .before .before .before .before .before .pre) (c .before .before .before .before .before .before .before .before .before .if2 .left) (c .before .before .before .before .before .before .before .farthest-seeds .ensures) (a .cap) (sym (c .before .before .before .before .before .before .before .before .before .before .before .heavy-in .ensures) ∙ c .before .before .before .before .before .before .before .before .before .before .if1 .left) M
+    subst
+    (λ (l : GrowthRoom). Multisource l (a .cap) (c .before .before .before .before .before .before .before .farthest-seeds .last .0) (c .before .before .multisource .last .0) (c .before .before .multisource .result))
+    (c .before .before .before .room-at .ensures) (c .before .before .multisource .ensures) in
+    told-grown (c .before .before .before .before .before .before .before .before .before .before .before .before .before .before .pre)
+    (c .before .before .before .before .before .before .before .before .before .if2 .left)
+    (c .before .before .before .before .before .before .before .farthest-seeds .ensures) (a .cap)
+    (sym (c .before .before .before .before .before .before .before .before .before .before .before .heavy-in .ensures) ∙ c .before .before .before .before .before .before .before .before .before .before .if1 .left) M
 
 pub weighted-multisource-partition-spec : {M : Type 1} → statement M
 weighted-multisource-partition-spec =

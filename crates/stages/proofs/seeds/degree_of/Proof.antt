@@ -29,7 +29,9 @@ shared-slice-read-result-2 : tie.Need-shared-slice-read-result-2
 shared-slice-read-result-2 c = search needs
 
 sub-result : tie.Need-sub-result
-sub-result c = c .before .before .before .before .pre .0 .grows (c .before .before .index .result) (omega (arith, c .before .before .index .ensures, c .before .before .before .before .pre .1))
+sub-result c =
+    c .before .before .before .before .pre .0 .grows (c .before .before .index .result)
+    (omega (arith, c .before .before .index .ensures, c .before .before .before .before .pre .1))
 
 returns : tie.Need-returns
 returns c = rw (c .before .before .index .ensures)

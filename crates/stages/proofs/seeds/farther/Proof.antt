@@ -35,7 +35,8 @@ returns-2 : tie.Need-returns-2
 returns-2 c =
     let a = c .before .before .before .before .before .args in
     let x = c .before .before .before .index in
-    far-none (from (a .work .now) (a .scratch)) (degreeAt (a .work .now) (a .l)) (a .best) (a .i) (x .result) (a .best) (x .ensures) refl (c .before .if1 .left) (c .if2 .taken)
+    far-none (from (a .work .now) (a .scratch)) (degreeAt (a .work .now) (a .l)) (a .best) (a .i) (x .result) (a .best) (x .ensures) refl (c .before .if1 .left)
+    (c .if2 .taken)
 
 index-requires-2 : tie.Need-index-requires-2
 index-requires-2 c κs = search needs
@@ -47,17 +48,20 @@ mul-b : tie.Need-mul-b
 mul-b c = search needs
 
 shared-slice-read-b : tie.Need-shared-slice-read-b
-shared-slice-read-b c = omega (arith, one (c .before .before .before .before .before .before .before .args .best) (c .before .before .before .before .before .before .before .args .l .vertices) (c .before .before .if2 .left) (c .before .before .before .before .before .before .before .pre .2), c .before .index2 .ensures, c .before .before .before .before .before .before .before .pre .0 .distances-in)
+shared-slice-read-b c =
+    omega (arith, one (c .before .before .before .before .before .before .before .args .best) (c .before .before .before .before .before .before .before .args .l .vertices) (c .before .before .if2 .left) (c .before .before .before .before .before .before .before .pre .2), c .before .index2 .ensures, c .before .before .before .before .before .before .before .pre .0 .distances-in)
 
 returns-3 : tie.Need-returns-3
 returns-3 c =
     let a = c .before .before .before .before .before .before .before .before .args in
     let x = c .before .before .before .before .before .before .index in
     let y = c .before .before .index2 in
-    far-more (from (a .work .now) (a .scratch)) (degreeAt (a .work .now) (a .l)) (a .best) (a .i) (x .result) (y .result) (x .ensures) (y .ensures) (c .before .before .before .before .if1 .left) (c .before .before .before .if2 .left) (c .if3 .taken)
+    far-more (from (a .work .now) (a .scratch)) (degreeAt (a .work .now) (a .l)) (a .best) (a .i) (x .result) (y .result) (x .ensures) (y .ensures)
+    (c .before .before .before .before .if1 .left) (c .before .before .before .if2 .left) (c .if3 .taken)
 
 degree-of-requires : tie.Need-degree-of-requires
-degree-of-requires c κs = (c .before .before .before .before .before .before .before .before .before .pre .0, one (c .before .before .before .before .before .before .before .before .before .args .best) (c .before .before .before .before .before .before .before .before .before .args .l .vertices) (c .before .before .before .before .if2 .left) (c .before .before .before .before .before .before .before .before .before .pre .2))
+degree-of-requires c κs =
+    (c .before .before .before .before .before .before .before .before .before .pre .0, one (c .before .before .before .before .before .before .before .before .before .args .best) (c .before .before .before .before .before .before .before .before .before .args .l .vertices) (c .before .before .before .before .if2 .left) (c .before .before .before .before .before .before .before .before .before .pre .2))
 
 degree-of-requires-2 : tie.Need-degree-of-requires-2
 degree-of-requires-2 c κs = search needs
@@ -67,21 +71,26 @@ returns-4 c =
     let a = c .before .before .before .before .before .before .before .before .before .before .before .before .args in
     let x = c .before .before .before .before .before .before .before .before .before .before .index in
     let y = c .before .before .before .before .before .before .index2 in
-    far-degree (from (a .work .now) (a .scratch)) (degreeAt (a .work .now) (a .l)) (a .best) (a .i) (x .result) (y .result) (x .ensures) (y .ensures) (c .before .before .before .before .before .before .before .before .if1 .left) (c .before .before .before .before .before .before .before .if2 .left) (c .before .before .before .if4 .taken) (omega (arith, c .if5 .taken, c .before .before .degree-of .ensures, c .before .degree-of2 .ensures))
+    far-degree (from (a .work .now) (a .scratch)) (degreeAt (a .work .now) (a .l)) (a .best) (a .i) (x .result) (y .result) (x .ensures) (y .ensures)
+    (c .before .before .before .before .before .before .before .before .if1 .left) (c .before .before .before .before .before .before .before .if2 .left)
+    (c .before .before .before .if4 .taken) (omega (arith, c .if5 .taken, c .before .before .degree-of .ensures, c .before .degree-of2 .ensures))
 
 returns-5 : tie.Need-returns-5
 returns-5 c =
     let a = c .before .before .before .before .before .before .before .before .before .before .before .before .args in
     let x = c .before .before .before .before .before .before .before .before .before .before .index in
     let y = c .before .before .before .before .before .before .index2 in
-    far-tie (from (a .work .now) (a .scratch)) (degreeAt (a .work .now) (a .l)) (a .best) (a .i) (x .result) (y .result) (x .ensures) (y .ensures) (c .before .before .before .before .before .before .before .before .if1 .left) (c .before .before .before .before .before .before .before .if2 .left) (c .before .before .before .if4 .taken) (omega (arith, c .if5 .left, c .before .before .degree-of .ensures, c .before .degree-of2 .ensures))
+    far-tie (from (a .work .now) (a .scratch)) (degreeAt (a .work .now) (a .l)) (a .best) (a .i) (x .result) (y .result) (x .ensures) (y .ensures)
+    (c .before .before .before .before .before .before .before .before .if1 .left) (c .before .before .before .before .before .before .before .if2 .left)
+    (c .before .before .before .if4 .taken) (omega (arith, c .if5 .left, c .before .before .degree-of .ensures, c .before .degree-of2 .ensures))
 
 returns-6 : tie.Need-returns-6
 returns-6 c =
     let a = c .before .before .before .before .before .before .before .before .before .args in
     let x = c .before .before .before .before .before .before .before .index in
     let y = c .before .before .before .index2 in
-    far-less (from (a .work .now) (a .scratch)) (degreeAt (a .work .now) (a .l)) (a .best) (a .i) (x .result) (y .result) (x .ensures) (y .ensures) (c .before .before .before .before .before .if1 .left) (c .before .before .before .before .if2 .left) (c .before .if3 .left) (c .if4 .left)
+    far-less (from (a .work .now) (a .scratch)) (degreeAt (a .work .now) (a .l)) (a .best) (a .i) (x .result) (y .result) (x .ensures) (y .ensures)
+    (c .before .before .before .before .before .if1 .left) (c .before .before .before .before .if2 .left) (c .before .if3 .left) (c .if4 .left)
 
 pub farther-spec : {M : Type 1} → statement M
 farther-spec =

@@ -37,24 +37,42 @@ loop-holds : tie.Need-loop-holds Inv-loop μ-loop
 loop-holds c = (refl, omega arith, refl, λ w P e. seeded-none P _ e)
 
 next-seed-requires : tie.Need-next-seed-requires Inv-loop μ-loop
-next-seed-requires c κs = choosing (c .before .before .before .before .before .before .before .before .pre) (c .before .before .loop .inv .3 _ (c .before .before .before .before .before .before .before .before .pre) (c .before .before .before .before .before .fill-part .ensures))
+next-seed-requires c κs =
+    choosing (c .before .before .before .before .before .before .before .before .pre)
+    (c .before .before .loop .inv .3 _ (c .before .before .before .before .before .before .before .before .pre) (c .before .before .before .before .before .fill-part .ensures))
 
 add-work : tie.Need-add-work Inv-loop μ-loop
-add-work c = let h = at-seed (c .before .before .before .before .before .before .before .before .before .pre) (c .before .before .before .loop .inv .3 _ (c .before .before .before .before .before .before .before .before .before .pre) (c .before .before .before .before .before .before .fill-part .ensures)) (c .before .before .loop-test .taken) in record { fits = omega (arith, c .before .before .before .loop .inv .2, c .before .before .before .before .before .before .fill-part .kept .0, c .before .before .before .before .before .before .before .before .before .good .0 .0) }
+add-work c =
+    let h =
+    at-seed (c .before .before .before .before .before .before .before .before .before .pre)
+    (c .before .before .before .loop .inv .3 _ (c .before .before .before .before .before .before .before .before .before .pre) (c .before .before .before .before .before .before .fill-part .ensures))
+    (c .before .before .loop-test .taken) in
+    record { fits = omega (arith, c .before .before .before .loop .inv .2, c .before .before .before .before .before .before .fill-part .kept .0, c .before .before .before .before .before .before .before .before .before .good .0 .0) }
 
 mul-work : tie.Need-mul-work Inv-loop μ-loop
-mul-work c = let h = at-seed (c .before .before .before .before .before .before .before .before .before .pre) (c .before .before .before .loop .inv .3 _ (c .before .before .before .before .before .before .before .before .before .pre) (c .before .before .before .before .before .before .fill-part .ensures)) (c .before .before .loop-test .taken) in omega (arith, c .before .before .before .loop .inv .2, c .before .before .before .before .before .before .fill-part .kept .0, c .before .before .before .before .before .before .before .before .before .good .0)
+mul-work c =
+    let h =
+    at-seed (c .before .before .before .before .before .before .before .before .before .pre)
+    (c .before .before .before .loop .inv .3 _ (c .before .before .before .before .before .before .before .before .before .pre) (c .before .before .before .before .before .before .fill-part .ensures))
+    (c .before .before .loop-test .taken) in
+    omega (arith, c .before .before .before .loop .inv .2, c .before .before .before .before .before .before .fill-part .kept .0, c .before .before .before .before .before .before .before .before .before .good .0)
 
 slice-write-work : tie.Need-slice-write-work Inv-loop μ-loop
-slice-write-work c = at-seed (c .before .before .before .before .before .before .before .before .before .pre) (c .before .before .before .loop .inv .3 _ (c .before .before .before .before .before .before .before .before .before .pre) (c .before .before .before .before .before .before .fill-part .ensures)) (c .before .before .loop-test .taken)
+slice-write-work c =
+    at-seed (c .before .before .before .before .before .before .before .before .before .pre)
+    (c .before .before .before .loop .inv .3 _ (c .before .before .before .before .before .before .before .before .before .pre) (c .before .before .before .before .before .before .fill-part .ensures))
+    (c .before .before .loop-test .taken)
 
 lower-requires : tie.Need-lower-requires Inv-loop μ-loop
 lower-requires c κs =
-    let K = c .before .before .before .before .loop .inv .3 _ (c .before .before .before .before .before .before .before .before .before .before .pre) (c .before .before .before .before .before .before .before .fill-part .ensures) in
+    let K =
+    c .before .before .before .before .loop .inv .3 _ (c .before .before .before .before .before .before .before .before .before .before .pre)
+    (c .before .before .before .before .before .before .before .fill-part .ensures) in
     (searchFor (rowsAt (c .before .before .before .before .before .before .before .before .before .before .args .work .now) (c .before .before .before .before .before .before .before .before .before .before .args .l)) (c .before .before .before .before .loop .r), picks (c .before .before .before .before .before .before .before .before .before .before .pre) K _ (c .before .before .before .loop-test .taken) (c .before .next-seed .ensures))
 
 add-r : tie.Need-add-r Inv-loop μ-loop
-add-r c = record { fits = omega (arith, c .before .before .before .before .before .before .loop-test .taken, c .before .before .before .before .before .before .before .before .before .before .before .before .before .fits) }
+add-r c =
+    record { fits = omega (arith, c .before .before .before .before .before .before .loop-test .taken, c .before .before .before .before .before .before .before .before .before .before .before .before .before .fits) }
 
 loop-less : tie.Need-loop-less Inv-loop μ-loop
 loop-less c = omega arith
@@ -66,17 +84,24 @@ loop-again c =
     let s = c .before .before .before .before .next-seed in (
       refl,
       omega arith,
-      c .before .before .lower .kept .0 ∙ length-set (l .work) (c .before .before .before .before .before .before .before .before .before .before .before .before .before .args .scratch + 2 * c .before .before .before .before .before .before .before .before .before .before .before .before .before .args .l .vertices + l .r) (s .result) ∙ l .inv .2,
+      c .before .before .lower .kept .0
+          ∙ length-set (l .work)
+          (c .before .before .before .before .before .before .before .before .before .before .before .before .before .args .scratch + 2 * c .before .before .before .before .before .before .before .before .before .before .before .before .before .args .l .vertices + l .r)
+          (s .result)
+          ∙ l .inv .2,
       λ w P e.
           let K = l .inv .3 w P e in
-          picked P K _ t (s .ensures) (c .before .before .lower .ensures (searchFor (rowsAt w (c .before .before .before .before .before .before .before .before .before .before .before .before .before .args .l)) (l .r)) (picks P K _ t (s .ensures))),
+          picked P K _ t (s .ensures)
+          (c .before .before .lower .ensures (searchFor (rowsAt w (c .before .before .before .before .before .before .before .before .before .before .before .before .before .args .l)) (l .r)) (picks P K _ t (s .ensures))),
     )
 
 same-length : tie.Need-same-length Inv-loop μ-loop
 same-length c = c .before .loop .inv .2 ∙ c .before .before .before .before .fill-part .kept .0
 
 returns : tie.Need-returns Inv-loop μ-loop
-returns c = all-seeded (c .before .before .before .before .before .before .before .pre) (omega arith) (c .before .loop .inv .3 _ (c .before .before .before .before .before .before .before .pre) (c .before .before .before .before .fill-part .ensures))
+returns c =
+    all-seeded (c .before .before .before .before .before .before .before .pre) (omega arith)
+    (c .before .loop .inv .3 _ (c .before .before .before .before .before .before .before .pre) (c .before .before .before .before .fill-part .ensures))
 
 pub farthest-seeds-spec : {M : Type 1} → statement M
 farthest-seeds-spec =

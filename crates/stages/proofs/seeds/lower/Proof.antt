@@ -44,13 +44,23 @@ loop-holds : tie.Need-loop-holds Inv-loop μ-loop
 loop-holds c = (refl, refl, λ g w P e. low-begins P _ _ _ (ap (λ (i : ℕ). c .before .before .args .scratch + i) (c .index .ensures)) refl e)
 
 add-index : tie.Need-add-index Inv-loop μ-loop
-add-index c = let h = tail-le (c .before .before .before .before .pre .1) (c .before .loop .inv .2 (c .before .before .before .before .pre .0) _ (c .before .before .before .before .pre .1) refl) in record { fits = omega (arith, c .loop-test .taken, c .before .before .before .before .good .0 .0) }
+add-index c =
+    let h =
+    tail-le (c .before .before .before .before .pre .1)
+    (c .before .loop .inv .2 (c .before .before .before .before .pre .0) _ (c .before .before .before .before .pre .1) refl) in
+    record { fits = omega (arith, c .loop-test .taken, c .before .before .before .before .good .0 .0) }
 
 mul-index : tie.Need-mul-index Inv-loop μ-loop
-mul-index c = let h = tail-le (c .before .before .before .before .pre .1) (c .before .loop .inv .2 (c .before .before .before .before .pre .0) _ (c .before .before .before .before .pre .1) refl) in omega (arith, c .loop-test .taken, c .before .before .before .before .good .0)
+mul-index c =
+    let h =
+    tail-le (c .before .before .before .before .pre .1)
+    (c .before .loop .inv .2 (c .before .before .before .before .pre .0) _ (c .before .before .before .before .pre .1) refl) in
+    omega (arith, c .loop-test .taken, c .before .before .before .before .good .0)
 
 slice-read-index : tie.Need-slice-read-index Inv-loop μ-loop
-slice-read-index c = let L = c .before .before .loop .inv .2 (c .before .before .before .before .before .pre .0) _ (c .before .before .before .before .before .pre .1) refl in omega (arith, tail-le (c .before .before .before .before .before .pre .1) L, L .kept .same-length, c .before .loop-test .taken)
+slice-read-index c =
+    let L = c .before .before .loop .inv .2 (c .before .before .before .before .before .pre .0) _ (c .before .before .before .before .before .pre .1) refl in
+    omega (arith, tail-le (c .before .before .before .before .before .pre .1) L, L .kept .same-length, c .before .loop-test .taken)
 
 index-requires-2 : tie.Need-index-requires-2 Inv-loop μ-loop
 index-requires-2 c κs = search needs
@@ -62,13 +72,20 @@ scan-requires c κs =
     (P .0, c .before .before .before .before .loop .h, low-scans (P .1) L _ (c .before .index2 .ensures) (c .before .before .before .loop-test .taken))
 
 add-h : tie.Need-add-h Inv-loop μ-loop
-add-h c = let h = tail-le (c .before .before .before .before .before .before .before .before .before .before .pre .1) (c .before .before .before .before .before .before .before .loop .inv .2 (c .before .before .before .before .before .before .before .before .before .before .pre .0) _ (c .before .before .before .before .before .before .before .before .before .before .pre .1) refl) in record { fits = omega (arith, c .before .before .before .before .before .before .loop-test .taken, c .before .before .before .before .before .before .before .before .before .before .good .0 .0) }
+add-h c =
+    let h =
+    tail-le (c .before .before .before .before .before .before .before .before .before .before .pre .1)
+    (c .before .before .before .before .before .before .before .loop .inv .2 (c .before .before .before .before .before .before .before .before .before .before .pre .0) _ (c .before .before .before .before .before .before .before .before .before .before .pre .1) refl) in
+    record { fits = omega (arith, c .before .before .before .before .before .before .loop-test .taken, c .before .before .before .before .before .before .before .before .before .before .good .0 .0) }
 
 loop-less : tie.Need-loop-less Inv-loop μ-loop
 loop-less c =
     let a = c .before .before .before .before .before .before .before .before .before .before .args in
-    let h = tail-le (c .before .before .before .before .before .before .before .before .before .before .pre .1) (c .before .before .before .before .before .before .before .loop .inv .2 (c .before .before .before .before .before .before .before .before .before .before .pre .0) _ (c .before .before .before .before .before .before .before .before .before .before .pre .1) refl) in
-    let e : length (set (set (a .work .now) (a .scratch + c .before .before .before .before .before .before .before .before .index .result) 0) (a .scratch + a .l .vertices) (a .s)) ≡ length (a .work .now) = simp length-set in
+    let h =
+    tail-le (c .before .before .before .before .before .before .before .before .before .before .pre .1)
+    (c .before .before .before .before .before .before .before .loop .inv .2 (c .before .before .before .before .before .before .before .before .before .before .pre .0) _ (c .before .before .before .before .before .before .before .before .before .before .pre .1) refl) in
+    let e : length (set (set (a .work .now) (a .scratch + c .before .before .before .before .before .before .before .before .index .result) 0) (a .scratch + a .l .vertices) (a .s)) ≡ length (a .work .now) =
+    simp length-set in
     omega (arith, c .before .before .before .before .before .before .loop-test .taken)
 
 loop-again : tie.Need-loop-again Inv-loop μ-loop
@@ -78,7 +95,8 @@ loop-again c =
       c .before .before .scan .kept .0 ∙ l .inv .1,
       λ g w P e.
           let L = l .inv .2 g w P e in
-          low-next P L (c .before .before .scan .ensures g (l .h) (low-scans P L _ (c .before .before .before .before .index2 .ensures) (c .before .before .before .before .before .before .loop-test .taken))),
+          low-next P L
+          (c .before .before .scan .ensures g (l .h) (low-scans P L _ (c .before .before .before .before .index2 .ensures) (c .before .before .before .before .before .before .loop-test .taken))),
     )
 
 same-length : tie.Need-same-length Inv-loop μ-loop

@@ -19,7 +19,8 @@ Inv-loop work l scratch n best₀ i₀ best i =
     (n ≡ l .vertices)
     × (i ≤ n)
     × ((best ≡ unassigned) ⊎ (best < n))
-    × (left (ahead (from work scratch) (degreeAt work l)) (unseeded (from work scratch)) n i (held best) ≡ best-of (ahead (from work scratch) (degreeAt work l)) (filter (unseeded (from work scratch)) (range 0 n)))
+    ×
+    (left (ahead (from work scratch) (degreeAt work l)) (unseeded (from work scratch)) n i (held best) ≡ best-of (ahead (from work scratch) (degreeAt work l)) (filter (unseeded (from work scratch)) (range 0 n)))
 
 abbrev μ-loop : tie.MeasureT-loop
 μ-loop work l scratch n best₀ i₀ best i = n - i
@@ -58,7 +59,8 @@ returns c =
     let d : ℕ → ℕ = from (a .work .now) (a .scratch) in
     let deg : ℕ → ℕ = degreeAt (a .work .now) (a .l) in
     let l = c .before .before .loop in
-    far-end d deg (a .l .vertices) (l .best) (sym (all-met (ahead d deg) (unseeded d) (a .l .vertices) (l .i) (held (l .best)) (omega arith)) ∙ l .inv .3) (c .if1 .taken)
+    far-end d deg (a .l .vertices) (l .best) (sym (all-met (ahead d deg) (unseeded d) (a .l .vertices) (l .i) (held (l .best)) (omega arith)) ∙ l .inv .3)
+    (c .if1 .taken)
 
 returns-2 : tie.Need-returns-2 Inv-loop μ-loop
 returns-2 c =
@@ -66,7 +68,8 @@ returns-2 c =
     let d : ℕ → ℕ = from (a .work .now) (a .scratch) in
     let deg : ℕ → ℕ = degreeAt (a .work .now) (a .l) in
     let l = c .before .before .loop in
-    far-found d deg (a .l .vertices) (l .best) (sym (all-met (ahead d deg) (unseeded d) (a .l .vertices) (l .i) (held (l .best)) (omega arith)) ∙ l .inv .3) (c .if1 .left)
+    far-found d deg (a .l .vertices) (l .best) (sym (all-met (ahead d deg) (unseeded d) (a .l .vertices) (l .i) (held (l .best)) (omega arith)) ∙ l .inv .3)
+    (c .if1 .left)
 
 pub next-seed-spec : {M : Type 1} → statement M
 next-seed-spec =

@@ -38,16 +38,22 @@ slice-write-work : tie.Need-slice-write-work
 slice-write-work c = search needs
 
 add-work-2 : tie.Need-add-work-2
-add-work-2 c = let h = c .before .before .before .before .pre .room (rw (c .before .before .index .ensures) at (c .if1 .taken)) in record { fits = omega (arith, c .before .before .before .before .good .0 .0) }
+add-work-2 c =
+    let h = c .before .before .before .before .pre .room (rw (c .before .before .index .ensures) at (c .if1 .taken)) in
+    record { fits = omega (arith, c .before .before .before .before .good .0 .0) }
 
 mul-work-2 : tie.Need-mul-work-2
-mul-work-2 c = let h = c .before .before .before .before .pre .room (rw (c .before .before .index .ensures) at (c .if1 .taken)) in omega (arith, c .before .before .before .before .good .0)
+mul-work-2 c =
+    let h = c .before .before .before .before .pre .room (rw (c .before .before .index .ensures) at (c .if1 .taken)) in
+    omega (arith, c .before .before .before .before .good .0)
 
 slice-write-work-2 : tie.Need-slice-write-work-2
 slice-write-work-2 c = simp length-set (c .before .before .before .before .pre .room (rw (c .before .before .index .ensures) at (c .if1 .taken)))
 
 add-result : tie.Need-add-result
-add-result c = let h = c .before .before .before .before .pre .room (rw (c .before .before .index .ensures) at (c .if1 .taken)) in record { fits = omega (arith, c .before .before .before .before .good .0 .0) }
+add-result c =
+    let h = c .before .before .before .before .pre .room (rw (c .before .before .index .ensures) at (c .if1 .taken)) in
+    record { fits = omega (arith, c .before .before .before .before .good .0 .0) }
 
 same-length : tie.Need-same-length
 same-length c = search needs
@@ -56,14 +62,16 @@ returns : tie.Need-returns
 unfolding relaxed tailAfter
 returns c =
     let a = c .before .before .before .before .args in
-    let far : isFarther (a .work .now) (a .scratch) (a .x) (a .d) ≡ true = lt-ltb (a .d + 1) (from (a .work .now) (a .scratch) (a .x)) (rw (c .before .before .index .ensures) at (c .if1 .taken)) in
+    let far : isFarther (a .work .now) (a .scratch) (a .x) (a .d) ≡ true =
+    lt-ltb (a .d + 1) (from (a .work .now) (a .scratch) (a .x)) (rw (c .before .before .index .ensures) at (c .if1 .taken)) in
     record { tail = rw far; after = rw (c .before .before .index .ensures, far) }
 
 returns-2 : tie.Need-returns-2
 unfolding relaxed tailAfter
 returns-2 c =
     let a = c .before .before .before .before .args in
-    let near : isFarther (a .work .now) (a .scratch) (a .x) (a .d) ≡ false = le-ltb (a .d + 1) (from (a .work .now) (a .scratch) (a .x)) (rw (c .before .before .index .ensures) at (c .if1 .left)) in
+    let near : isFarther (a .work .now) (a .scratch) (a .x) (a .d) ≡ false =
+    le-ltb (a .d + 1) (from (a .work .now) (a .scratch) (a .x)) (rw (c .before .before .index .ensures) at (c .if1 .left)) in
     record { tail = rw near; after = rw near }
 
 pub relax-spec : {M : Type 1} → statement M

@@ -70,13 +70,22 @@ loop-holds c =
     )
 
 add-x : tie.Need-add-x Inv-loop μ-loop
-add-x c = let h = at-neighbor-in (c .before .before .before .before .before .before .before .before .pre .2) (c .before .loop .j) (rw (c .before .loop .inv .2) at (c .loop-test .taken)) in record { fits = omega (arith, c .before .before .before .before .before .before .before .before .good .0 .0) }
+add-x c =
+    let h =
+    at-neighbor-in (c .before .before .before .before .before .before .before .before .pre .2) (c .before .loop .j)
+    (rw (c .before .loop .inv .2) at (c .loop-test .taken)) in
+    record { fits = omega (arith, c .before .before .before .before .before .before .before .before .good .0 .0) }
 
 mul-x : tie.Need-mul-x Inv-loop μ-loop
-mul-x c = let h = at-neighbor-in (c .before .before .before .before .before .before .before .before .pre .2) (c .before .loop .j) (rw (c .before .loop .inv .2) at (c .loop-test .taken)) in omega (arith, c .before .before .before .before .before .before .before .before .good .0)
+mul-x c =
+    let h =
+    at-neighbor-in (c .before .before .before .before .before .before .before .before .pre .2) (c .before .loop .j)
+    (rw (c .before .loop .inv .2) at (c .loop-test .taken)) in
+    omega (arith, c .before .before .before .before .before .before .before .before .good .0)
 
 slice-read-x : tie.Need-slice-read-x Inv-loop μ-loop
-slice-read-x c = omega (arith, at-neighbor-in (c .before .before .before .before .before .before .before .before .before .pre .2) (c .before .before .loop .j) (rw (c .before .before .loop .inv .2) at (c .before .loop-test .taken)), c .before .before .loop .inv .4)
+slice-read-x c =
+    omega (arith, at-neighbor-in (c .before .before .before .before .before .before .before .before .before .pre .2) (c .before .before .loop .j) (rw (c .before .before .loop .inv .2) at (c .before .loop-test .taken)), c .before .before .loop .inv .4)
 
 relax-requires : tie.Need-relax-requires Inv-loop μ-loop
 relax-requires c κs =
@@ -85,7 +94,12 @@ relax-requires c κs =
     relaxing (P .2) (l .j) (l .inv .3) (rw (l .inv .2) at (c .before .before .loop-test .taken)) (l .inv .5 (P .0) (P .1) (P .2)) _ _ refl refl
 
 add-j : tie.Need-add-j Inv-loop μ-loop
-add-j c = let h = at-neighbor-in (c .before .before .before .before .before .before .before .before .before .before .before .before .before .pre .2) (c .before .before .before .before .before .before .loop .j) (rw (c .before .before .before .before .before .before .loop .inv .2) at (c .before .before .before .before .before .loop-test .taken)) in record { fits = omega (arith, c .before .before .before .before .before .before .before .before .before .before .before .before .before .good .0 .0) }
+add-j c =
+    let h =
+    at-neighbor-in (c .before .before .before .before .before .before .before .before .before .before .before .before .before .pre .2)
+    (c .before .before .before .before .before .before .loop .j)
+    (rw (c .before .before .before .before .before .before .loop .inv .2) at (c .before .before .before .before .before .loop-test .taken)) in
+    record { fits = omega (arith, c .before .before .before .before .before .before .before .before .before .before .before .before .before .good .0 .0) }
 
 loop-less : tie.Need-loop-less Inv-loop μ-loop
 loop-less c = omega arith
