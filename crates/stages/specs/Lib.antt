@@ -12,6 +12,3 @@ pub mod MovesCode
 pub mod SeedsCode
 pub mod FrontierCode
 pub mod GrowthCode
-pub mod CoarsenCode
-pub mod CoarsenParts
-pub mod MovesCode

@@ -23,7 +23,7 @@ unfoldable pub distances : List (List ℕ) → List ℕ → List ℕ
 distances rows seeds = spreadFrom (length rows) rows 0 (map (λ v. cond (elem v seeds) 0 unassigned) (vertices rows))
 
 -- the plain sense of that word: the seeds alone are at 0, neighbors differ by at most 1, and each other vertex that is reached has a neighbor that
--- is nearer. `distances` has it, and nothing else has (proofs/seeds/Distance.antt)
+-- is nearer. `distances` has it, and nothing else has (proofs/DistanceLaws.antt)
 pub record Distance (rows : List (List ℕ)) (seeds : List ℕ) (d : ℕ → ℕ) : Type 0 where
   pub most : (v : ℕ) → v < length rows → d v ≤ unassigned
   pub at-seeds : (v : ℕ) → v < length rows → elem v seeds ≡ true → d v ≡ 0
