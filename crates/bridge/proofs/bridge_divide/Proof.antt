@@ -1,0 +1,94 @@
+use Prim.Native.Nat.{ℕ}
+use mathlib.Core.Path.{_≡_, refl, ap, sym, _∙_}
+use mathlib.Core.List.{List}
+use Rattle.links.specs.Options.{zeroStats}
+use Rattle.multilevel.specs.declared.driver.Answer.{Answer}
+use Rattle.multilevel.specs.Causes.{Call}
+use Rattle.multilevel.specs.Contract.{answerNumber, answerStats, Partitioned}
+use Rattle.bridge.specs.Division.{statsNumbers, DividedAsNumbers}
+use borrow.Author.Needs.{needs}
+use Rattle.bridge.proofs.bridge_divide.Statement.{statement}
+use Rattle.bridge.proofs.bridge_divide.Tie as tie
+
+as-numbers
+    : {c : Call} {owners owners′ work work′ stats : List ℕ} {a : Answer} {number : ℕ}
+    → Partitioned c owners owners′ work work′ a
+    → number ≡ answerNumber a
+    → stats ≡ statsNumbers (answerStats a)
+    → DividedAsNumbers c owners owners′ work work′ stats number
+as-numbers p number-is stats-are =
+    record {
+      number = number-is ∙ p .number-is;
+      stats = stats-are ∙ ap statsNumbers (p .stats-are);
+      lent =
+          record {
+            answer-is = refl;
+            number-is = ap answerNumber (sym (p .answer-is)) ∙ p .number-is;
+            stats-are = ap answerStats (sym (p .answer-is)) ∙ p .stats-are;
+            owners-are = p .owners-are;
+            work-is = p .work-is;
+            demand3 = p .demand3;
+          };
+    }
+
+element-copy-out-t13 : tie.Need-element-copy-out-t13
+element-copy-out-t13 c = search needs
+
+element-copy-out-t16 : tie.Need-element-copy-out-t16
+element-copy-out-t16 c = search needs
+
+element-copy-out-t19 : tie.Need-element-copy-out-t19
+element-copy-out-t19 c = search needs
+
+element-copy-out-t22 : tie.Need-element-copy-out-t22
+element-copy-out-t22 c = search needs
+
+abtm-multilevel-partition-requires : tie.Need-abtm-multilevel-partition-requires
+abtm-multilevel-partition-requires c κs = search needs
+
+enum-known-s : tie.Need-enum-known-s
+enum-known-s c = search needs
+
+numbers-of-requires : tie.Need-numbers-of-requires
+numbers-of-requires c κs = search needs
+
+enum-known-number : tie.Need-enum-known-number
+enum-known-number c = search needs
+
+same-length : tie.Need-same-length
+same-length c = search needs
+
+same-length-2 : tie.Need-same-length-2
+same-length-2 c = search needs
+
+returns : tie.Need-returns
+returns c = as-numbers (c .before .before .before .before .before .before .before .before .abtm-multilevel-partition .ensures) (sym (ap answerNumber (c .before .before .s .given .1))) (c .numbers-of .ensures ∙ sym (ap (λ (a : Answer). statsNumbers (answerStats a)) (c .before .before .s .given .1)))
+
+same-length-3 : tie.Need-same-length-3
+same-length-3 c = search needs
+
+same-length-4 : tie.Need-same-length-4
+same-length-4 c = search needs
+
+returns-2 : tie.Need-returns-2
+unfolding zeroStats
+returns-2 c = as-numbers (c .before .before .before .before .before .before .before .before .abtm-multilevel-partition .ensures) (sym (ap answerNumber (c .before .before .number .given .1))) (sym (ap (λ (a : Answer). statsNumbers (answerStats a)) (c .before .before .number .given .1)))
+
+pub bridge-divide-spec : {M : Type 1} → statement M
+bridge-divide-spec =
+    tie.close
+    (tie.spec
+    element-copy-out-t13
+    element-copy-out-t16
+    element-copy-out-t19
+    element-copy-out-t22
+    abtm-multilevel-partition-requires
+    enum-known-s
+    numbers-of-requires
+    enum-known-number
+    same-length
+    same-length-2
+    returns
+    same-length-3
+    same-length-4
+    returns-2)
