@@ -8,9 +8,9 @@ use reference::stages;
 use reference::trace::trace;
 
 /// Owners, and some of the stats: their place in `AbtmMultilevelStats`, and the number.
-type Answer = Result<(&'static [u32], &'static [(usize, u64)]), u32>;
+pub type Answer = Result<(&'static [u32], &'static [(usize, u64)]), u32>;
 
-fn table() -> Vec<(Site, u32, [u64; 4], Answer)> {
+pub fn table() -> Vec<(Site, u32, [u64; 4], Answer)> {
     let pairs = Site::new(6, &[(0, 1), (2, 3), (4, 5)]);
     vec![
         (path(4), 2, [12, 64, 30, 2], Ok((&[0, 0, 1, 1], &[(6, 2), (7, 2)]))),

@@ -1,5 +1,6 @@
 //! The whole division beside the Rust's: refusal, owners, all eight stats, and what was written of the lent slices and what was not.
 use crate::bridge;
+use crate::byhand;
 use crate::report::{Check, Report};
 use reference::answers::{Options, lent_needs, partition_lent, vertex_count};
 use reference::random::Random;
@@ -93,6 +94,12 @@ fn bad(check: &mut Check, random: &mut Random, count: u64) {
 }
 
 pub fn compare(report: &mut Report, seed: u64, count: u64) {
+    report.check("divisions of 01's sites by hand", &[0, 6, 7, 8, 9], |check| {
+        for (site, ranks, [max_levels, coarse_vertices_per_rank, imbalance_per_mille, refinement_passes], _) in byhand::table() {
+            let options = Options { max_levels, coarse_vertices_per_rank, imbalance_per_mille, refinement_passes };
+            compare_one(check, &mut Random::new(seed), &site, ranks, options, 0, 0);
+        }
+    });
     report.check("divisions of all graphs of up to four vertices", &[0, 6, 7, 8, 9], |check| small(check, &mut Random::new(seed)));
     report.check("divisions of random sites", &[0, 6, 7, 8], |check| {
         let mut random = Random::new(seed);
@@ -105,12 +112,19 @@ pub fn compare(report: &mut Report, seed: u64, count: u64) {
         }
     });
     report.check("divisions of bad input", &[0, 1, 2, 3, 4, 5], |check| bad(check, &mut Random::new(seed), count));
-    report.check("divisions at the limits", &[0, 3], |check| {
+    report.check("divisions at the limits", &[0, 2, 3], |check| {
         let mut random = Random::new(seed);
         let options = |max_levels| Options { max_levels, coarse_vertices_per_rank: 64, imbalance_per_mille: 30, refinement_passes: 2 };
         for (site, ranks) in [(sites::grid(128, 128), 8), (sites::path(16_384), 256), (sites::star(16_384), 2), (sites::path(16_385), 2), (sites::clique(363), 3)] {
             compare_one(check, &mut random, &site, ranks, options(12), 1, 1);
         }
-        compare_one(check, &mut random, &sites::grid(20, 20), 16, options(32), 0, 0);
+        let many = Options { max_levels: 32, coarse_vertices_per_rank: 1, imbalance_per_mille: 500, refinement_passes: u64::MAX };
+        let full = sites::sparse(&mut random, 16_384, 65_536);
+        for (site, ranks) in [(sites::bipartite(256, 256), 256), (full, 256), (sites::grid(20, 20), 16)] {
+            compare_one(check, &mut random, &site, ranks, many, 0, 0);
+        }
+        for site in [Site { offsets: vec![], neighbors: vec![] }, Site { offsets: vec![0], neighbors: vec![] }] {
+            compare_one(check, &mut random, &site, 1, many, 0, 0);
+        }
     });
 }
