@@ -10,6 +10,7 @@ extern crate self as rayon;
 
 pub mod answers;
 pub mod link_file;
+pub mod listing;
 pub mod random;
 pub mod sites;
 mod stand_ins;
