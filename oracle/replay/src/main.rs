@@ -1,29 +1,42 @@
 //! Writes what the Rust answers, for tests that run without it.
 //!
-//!     replay samples FOLDER     each link file of the folder by name, with its listing
+//!     replay samples FOLDER           prints each link file of the folder by name, with its listing
+//!     replay requests FOLDER OUT      writes OUT/stdin, OUT/stdout and OUT/REQUESTS.md: the requests of crates/replay, the listings, and what each
+//!                                     request is for. FOLDER is that of the samples
+// multilevel.rs, of which requests.rs has copies with a slip each, names these as of its own crate, and the matrix crate
+extern crate reference as hybit_matrix;
+use reference::{
+    DistributedTopologyError, GlobalDofId, PartitionAssignment, PartitionTelemetry, RankId,
+    partition_telemetry_assignment,
+};
+
 use reference::listing::listing;
-use std::path::Path;
+use std::path::{Path, PathBuf};
+
+mod requests;
 
 fn main() {
     let words: Vec<String> = std::env::args().skip(1).collect();
     match words.iter().map(String::as_str).collect::<Vec<_>>().as_slice() {
-        ["samples", folder] => print!("{}", samples(Path::new(folder))),
+        ["samples", folder] => {
+            for (name, file) in samples(Path::new(folder)) {
+                print!("== {name}\n{}", listing(&file));
+            }
+        }
+        ["requests", folder, out] => requests::write(samples(Path::new(folder)), Path::new(out)),
         _ => {
-            eprintln!("usage: replay samples FOLDER");
+            eprintln!("usage: replay samples FOLDER | replay requests FOLDER OUT");
             std::process::exit(2);
         }
     }
 }
 
-fn samples(folder: &Path) -> String {
-    let mut names: Vec<_> = std::fs::read_dir(folder).expect("a folder").map(|entry| entry.expect("an entry").path()).collect();
-    names.retain(|name| name.extension().is_some_and(|e| e == "links"));
-    names.sort();
-    names
-        .iter()
-        .map(|name| {
-            let stem = name.file_stem().expect("a name").to_string_lossy();
-            format!("== {stem}\n{}", listing(&std::fs::read(name).expect("a sample")))
-        })
-        .collect()
+/// Each link file of a folder: its name and its bytes.
+fn samples(folder: &Path) -> Vec<(String, Vec<u8>)> {
+    let entries = std::fs::read_dir(folder).expect("a folder");
+    let mut paths: Vec<PathBuf> = entries.map(|entry| entry.expect("an entry").path()).collect();
+    paths.retain(|path| path.extension().is_some_and(|e| e == "links"));
+    paths.sort();
+    let name = |path: &Path| path.file_stem().expect("a name").to_string_lossy().into_owned();
+    paths.iter().map(|path| (name(path), std::fs::read(path).expect("a sample"))).collect()
 }

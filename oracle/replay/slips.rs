@@ -1,0 +1,149 @@
+// The slips: a name, what goes wrong, and the replacements in multilevel.rs that make it so, each of which must match once. build.rs makes a copy of
+// the Rust with each of them, and the list of requests has sites on which that copy answers otherwise than the Rust.
+pub const SLIPS: &[(&str, &str, &[(&str, &str)])] = &[
+    // document 01, 'Slips the Rust invites'
+    (
+        "stale_gains",
+        "a swap is applied from the gains at the pass's start",
+        &[("if gain_a + gain_b <= 0 {", "if false {")],
+    ),
+    (
+        "discarded_singletons",
+        "the discarded step's singletons are counted",
+        &[(
+            "if coarse_matrix.nrows() >= previous_n {\n            break;",
+            "if coarse_matrix.nrows() >= previous_n {\n            stats.singleton_aggregates += singletons;\n            break;",
+        )],
+    ),
+    (
+        "unmatched_shared",
+        "only unmatched shared neighbors count",
+        &[(
+            ".filter(|&&shared| neighbor_stamps[shared] == node)",
+            ".filter(|&&shared| neighbor_stamps[shared] == node && fine_to_coarse[shared] == usize::MAX)",
+        )],
+    ),
+    (
+        "coarse_cut",
+        "the coarsest level's cut is reported as the finest's",
+        &[
+            (
+                "let uncoarsening_started = Instant::now();",
+                "let coarse_cut = partition_telemetry_assignment(&current_matrix, &assignment)?.cut_nnz;\n    let uncoarsening_started = Instant::now();",
+            ),
+            ("stats.final_cut_nnz = final_metrics.cut_nnz;", "stats.final_cut_nnz = coarse_cut;"),
+        ],
+    ),
+    // what the starred sites by hand do not catch
+    (
+        "order_by_number",
+        "vertices are paired by number, not by degree",
+        &[(
+            "order.sort_by_key(|&node| (Reverse(adjacency[node].len()), node));",
+            "order.sort_by_key(|&node| (Reverse(0), node));",
+        )],
+    ),
+    (
+        "restart_low_degree",
+        "a restart takes the group of lowest degree",
+        &[(
+            "let candidate = (adjacency[node].len(), usize::MAX - node);",
+            "let candidate = (usize::MAX - adjacency[node].len(), usize::MAX - node);",
+        )],
+    ),
+    (
+        "claim_appends_nothing",
+        "a claim appends none of its neighbors",
+        &[(
+            "changed = true;\n\n                for &neighbor in &adjacency[node] {",
+            "changed = true;\n\n                for &neighbor in &adjacency[node][..0] {",
+        )],
+    ),
+    (
+        "no_floor",
+        "a move may leave less than the floor",
+        &[("if loads[source] < weight || loads[source] - weight < floor {", "if loads[source] < weight {")],
+    ),
+    (
+        "used_twice",
+        "a vertex is swapped twice in a pass",
+        &[
+            ("if used[node_a] || used[node_b] {", "if false {"),
+            ("if owners[node_a] != a as RankId || owners[node_b] != b as RankId {", "if false {"),
+        ],
+    ),
+    (
+        "linked_less_one",
+        "net is 1 less if linked, not 2",
+        &[("gain_a + gain_b - (shared as isize * 2)", "gain_a + gain_b - shared as isize")],
+    ),
+    (
+        "passes_once",
+        "swaps have refinement_passes passes, not four times as many",
+        &[("options.refinement_passes.saturating_mul(4)", "options.refinement_passes")],
+    ),
+    // further edits, a few for each stage
+    (
+        "partner_high_degree",
+        "of equal partners the one of highest degree",
+        &[("usize::MAX - adjacency[neighbor].len(),", "adjacency[neighbor].len(),")],
+    ),
+    (
+        "reachable_first",
+        "seeds that can be reached come before those that cannot",
+        &[(
+            "unreachable,\n                if unreachable { 0 } else { distance[node] },",
+            "!unreachable,\n                if unreachable { 0 } else { distance[node] },",
+        )],
+    ),
+    (
+        "nearest_seed",
+        "the next seed is the nearest",
+        &[(
+            "if unreachable { 0 } else { distance[node] },",
+            "if unreachable { 0 } else { usize::MAX - distance[node] },",
+        )],
+    ),
+    (
+        "no_cap",
+        "a move may pass the cap",
+        &[("\n                    || loads[target].saturating_add(weight) > cap", "")],
+    ),
+    (
+        "highest_rank",
+        "of equal gains the highest rank is the target",
+        &[
+            ("let candidate = (gain, usize::MAX - target);", "let candidate = (gain, target);"),
+            ("let target = usize::MAX - reverse_target;", "let target = reverse_target;"),
+        ],
+    ),
+    (
+        "first_target",
+        "the first rank with a gain is the target, not the one of greatest gain",
+        &[(
+            "let gain = links[target] - internal;\n                let candidate",
+            "let gain = 1;\n                let candidate",
+        )],
+    ),
+    (
+        "moves_feigned",
+        "no moves",
+        &[(
+            "let mut moves = 0usize;\n\n    for _ in 0..passes {",
+            "let mut moves = 0usize;\n\n    for _ in 0..passes.min(0) {",
+        )],
+    ),
+    (
+        "swaps_feigned",
+        "no swaps",
+        &[(
+            "let mut total_swaps = 0usize;\n\n    for _ in 0..passes {",
+            "let mut total_swaps = 0usize;\n\n    for _ in 0..passes.min(0) {",
+        )],
+    ),
+    (
+        "seven_candidates",
+        "seven candidates for a pair of ranks, not eight",
+        &[("items.truncate(8);", "items.truncate(7);")],
+    ),
+];
