@@ -3,13 +3,13 @@
 //!     compare [--seed NUMBER] [--count NUMBER]
 //!
 //! The count is how many random inputs a check draws (20000 if not given). The exit status is 1 where an answer differs.
-mod bridge;
 mod byhand;
 mod division;
 mod link_file;
 mod links;
 mod report;
 
+use compare::bridge;
 use report::Report;
 
 fn main() {
