@@ -20,7 +20,7 @@ use Rattle.links.proofs.SoundLaws.{sound-lists}
 use Rattle.links.proofs.OwnerLaws.{all-below}
 use Rattle.stages.specs.declared.level.HierarchyLevel.{HierarchyLevel}
 use Rattle.bridge_stages.specs.declared.lent.Place.{Place}
-use Rattle.bridge_stages.specs.Lent.{Lent, levelAt, unitOf, placeFor, placeOf, needOf, overLimits, misfit, lentCause, Limited, LevelFits, LevelLaid, LevelIn}
+use Rattle.bridge_stages.specs.Lent.{Lent, levelAt, placeFor, placeOf, needOf, overLimits, misfit, lentCause, Limited, LevelFits, LevelLaid, LevelIn}
 
 pub sum-drop : (xs : List ℕ) (i : ℕ) → i < length xs → sum (drop i xs) ≡ at xs i + sum (drop (i + 1) xs)
 sum-drop xs i h = rw (add-one, drop-cons xs i 0)

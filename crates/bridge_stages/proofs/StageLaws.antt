@@ -1,12 +1,12 @@
 -- Laws of the stages on a lent level: their premises hold, and what they leave is what is promised. Assumes nothing.
-use Prim.Native.Nat.{ℕ, _+_, _*_, _≤_, _<_}
+use Prim.Native.Nat.{ℕ, _≤_, _<_}
 use mathlib.Core.Path.{_≡_, refl, sym, ap, _∙_}
-use mathlib.Core.Bool.{Bool, true, false, cond}
+use mathlib.Core.Bool.{cond}
 use mathlib.Core.List.{List}
 use native.Mathlib.Omega.{arith}
 use lib.ListN.{length}
-use lib.Dec.{ltb, eqb}
-use borrow.Author.Tests.{eq-eqb, ne-eqb, lt-ltb, le-ltb}
+use lib.Dec.{eqb}
+use borrow.Author.Tests.{ne-eqb, lt-ltb, le-ltb}
 use Rattle.links.specs.Graph.{vertexCount}
 use Rattle.links.specs.Owners.{fromOwners}
 use Rattle.links.specs.Lists.{foldl}
@@ -22,14 +22,13 @@ use Rattle.stages.specs.SeedsCode.{Seedable, Seeded}
 use Rattle.stages.specs.GrowthCode.{Growable, GrownTold, growthCause, grownNumber, grownValue, grownAnswer}
 use Rattle.stages.specs.MovesCode.{Refinable, RefinedByCut, movesAt, movedAt, refinedNumber, refinedValue}
 use Rattle.stages.specs.SwapsCode.{Swappable, RefinedBySwaps, swapsAt}
-use Rattle.stages.specs.declared.level.HierarchyLevel.{HierarchyLevel}
 use Rattle.stages.specs.declared.level.Limits.{Limits}
 use Rattle.stages.specs.declared.coarsen.Coarsened.{Coarsened}
 use Rattle.stages.specs.declared.coarsen.Coarsened.the-variants.{Same}
 use Rattle.stages.specs.declared.growth.Grown.{Grown}
 use Rattle.stages.specs.declared.moves.Refined.{Refined}
 use Rattle.bridge_stages.specs.declared.lent.Place.{Place}
-use Rattle.bridge_stages.specs.Lent.{Lent, rowsIn, levelAt, unitOf, placeOf, needOf, lentCause, Limited, LevelIn, Entered}
+use Rattle.bridge_stages.specs.Lent.{Lent, rowsIn, placeOf, lentCause, Limited, LevelIn, Entered}
 use Rattle.bridge_stages.specs.Stages.{orElse, coarsenedNumbers, CoarsenedHere, SeededHere, GrownHere, growthOf, growthCauseOf, MovedHere, balanceOf, movesOf, movedOf, SwappedHere, swapsOf}
 
 -- the value that goes with a number

@@ -1,6 +1,6 @@
 -- A level as it is lent: its lists, weights and owners, and the number of ranks. What of it is refused, and where the rest is laid in the work
 -- slice. Assumes nothing.
-use Prim.Native.Nat.{ℕ, _+_, _*_, _≤_, _<_, _^_}
+use Prim.Native.Nat.{ℕ, _+_, _*_, _≤_, _^_}
 use mathlib.Core.Path.{_≡_}
 use mathlib.Core.Bool.{Bool, not, _||_, cond}
 use mathlib.Core.List.{List}

@@ -1,6 +1,6 @@
 // A level as it is lent: tested, and laid into the work slice.
 ghost use mathlib.Core.Path.{_≡_};
-ghost use Prim.Native.Nat.{_+_, _≤_, _<_, _^_};
+ghost use Prim.Native.Nat.{_<_, _^_};
 ghost use lib.ListN.{length};
 ghost use lib.Dec.{leb};
 ghost use Rattle.links.specs.Lists.{sum};
@@ -58,6 +58,7 @@ pub fn place_of(offsets: &[u32], neighbors: &[u32], ranks: u32) -> Place
     }
 }
 
+// How many work numbers the five stages need, and the level with them.
 fn need_for(n: usize, m: usize, k: usize) -> usize
     requires { ⌜ Limited n m k ⌝ }
     ensures { λ r. ⌜ r ≡ needFor n m k ⌝ }
@@ -95,6 +96,7 @@ fn stray_owner(owners: &[u32], ranks: u32) -> bool
     false
 }
 
+// 3: document 01's limits, and the weight that the stages take.
 fn over_limits(
     offsets: &[u32],
     neighbors: &[u32],
@@ -116,6 +118,7 @@ fn over_limits(
     heavy(weights)
 }
 
+// 5: not a weight and an owner for each vertex, or too little work.
 fn misfits(
     offsets: &[u32],
     neighbors: &[u32],
@@ -163,6 +166,7 @@ fn lent_cause(
     0
 }
 
+// Each list into its part of l.
 fn lay_level(
     work: &mut [u32],
     l: HierarchyLevel,
@@ -175,14 +179,14 @@ fn lay_level(
     ensures { λ _. ⌜ LevelLaid (now (work .entry)) (now (work .exit)) l (now (offsets .entry)) (now (neighbors .entry)) (now (weights .entry)) (now (owners .entry)) ⌝ }
 {
     let n = l.vertices;
-    let third = l.weights;
-    let third_end = third + n;
-    let last = l.owners;
-    let end = last + n;
+    let weights_at = l.weights;
+    let weights_end = weights_at + n;
+    let owners_at = l.owners;
+    let owners_end = owners_at + n;
     copy_part(work, l.offsets, l.offsets + (n + 1), offsets);
     copy_part(work, l.neighbors, l.neighbors + l.entries, neighbors);
-    copy_part(work, third, third_end, weights);
-    copy_part(work, last, end, owners);
+    copy_part(work, weights_at, weights_end, weights);
+    copy_part(work, owners_at, owners_end, owners);
 }
 
 // 0 and the level is laid; or the first of 3, 4, 5, 12, and nothing is written.

@@ -1,5 +1,6 @@
 //! Levels to run the stages on: weights and owners of any kind, not only those that a division comes to.
 use crate::bridge_stages::Level;
+use reference::answers::{MAX_NEIGHBORS, MAX_VERTICES};
 use reference::random::Random;
 use reference::sites::{self, Site};
 
@@ -103,6 +104,19 @@ pub fn chain_of_swaps(n: usize) -> Level {
     let links: Vec<_> = (0..n).map(|v| (v, n + v)).collect();
     let owners = (0..2 * n).map(|v| (v / n) as u32).collect();
     Level::new(Site::new(2 * n, &links), vec![1; 2 * n], owners, 2)
+}
+
+/// Levels at the limits of a division, and of a level's weight.
+pub fn large(random: &mut Random) -> Vec<Level> {
+    let shapes =
+        [sites::sparse(random, MAX_VERTICES, MAX_NEIGHBORS / 2), sites::star(MAX_VERTICES), sites::bipartite(256, 256)];
+    let level = |site: Site| {
+        let n = site.vertices();
+        let weights = vec![((MAX_TOTAL - 1) / n as u64) as u32; n];
+        let owners = (0..n).map(|v| if v < 256 { v as u32 } else { random.below(256) as u32 }).collect();
+        Level::new(site, weights, owners, 256)
+    };
+    shapes.map(level).into()
 }
 
 /// A level that is refused, most often, with one thing wrong.

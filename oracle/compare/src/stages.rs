@@ -43,6 +43,7 @@ fn coarsen(check: &mut Check, level: &Level) {
     let (groups, entries) = (rust.rows.len(), rust.rows.iter().map(Vec::len).sum());
     let counts = [groups, entries, rust.matched_pairs, rust.singleton_aggregates].map(|x| x as u64);
     let counts = if groups < n { counts } else { [0; 4] };
+    check.made(counts[2]);
     check.same(0, ours, (0, counts, rust.rows, rust.weights, rust.fine_to_coarse), || format!("{level:?}"));
 }
 
@@ -63,6 +64,7 @@ fn growth(check: &mut Check, level: &Level, t: u32) {
     let mut work = noise(level.need());
     let answer = level.growth(rules(level, t, 0).cap, &mut work);
     let rust = stages::weighted_multisource_partition(&level.rows(), &wide(&level.weights), level.ranks, t);
+    check.made(answer.1);
     check.outcomes(refined(level, answer, &work), rust, || format!("t {t}, {level:?}"));
 }
 
@@ -77,6 +79,7 @@ fn moves(check: &mut Check, level: &Level, t: u32, passes: u64) -> u64 {
     let (rows, weights) = (level.rows(), wide(&level.weights));
     let rust = stages::refine_by_cut(&rows, &weights, level.ranks, &level.owners, t, passes as usize);
     let input = || format!("t {t}, passes {passes}, {level:?}");
+    check.made(answer.1);
     check.outcomes(refined(level, answer, &work), checked(level, rust), input);
     answer.1
 }
@@ -92,6 +95,7 @@ fn swaps(check: &mut Check, level: &Level, t: u32, passes: u64) -> u64 {
         number => Err(number),
     });
     let rust = stages::refine_fine_pair_swaps(&level.rows(), level.ranks, &level.owners, t, passes as usize);
+    check.made(answer.1);
     check.outcomes(ours, checked(level, rust), || format!("t {t}, passes {passes}, {level:?}"));
     answer.1
 }
@@ -139,17 +143,17 @@ fn cause(level: &Level, work: usize) -> u32 {
     if level.owners.iter().any(|&o| o >= level.ranks) { 12 } else { 0 }
 }
 
-/// Each stage refuses it alike, and then leaves the work slice alone and writes zeros.
-fn refused(check: &mut Check, random: &mut Random) {
+/// Each stage refuses it alike, and then leaves the work slice alone and writes zeros; or it is not refused.
+fn spoilt(check: &mut Check, random: &mut Random) {
     let level = levels::spoilt(random);
     let need = if level.ranks > MAX_RANKS { 100 } else { level.need() };
     let lent = if random.once_in(4) { random.index(need) } else { need + random.index(3) };
     let expected = cause(&level, lent);
-    if expected == 0 {
-        return;
-    }
     let before = noise(lent);
     let mut work = before.clone();
+    if expected == 0 {
+        return check.same(0, level.coarsen(&mut work).0, 0, || format!("{level:?}"));
+    }
     let r = Rules { floor: 0, cap: u64::MAX, passes: 1 };
     let counted = [level.growth(r.cap, &mut work), level.moves(r, &mut work), level.swaps(r, &mut work)];
     let ours = (level.coarsen(&mut work), level.seeds(&mut work), counted, work);
@@ -163,19 +167,43 @@ fn refused(check: &mut Check, random: &mut Random) {
 fn drawn(seed: u64, count: u64, mut body: impl FnMut(&mut Random, &Level)) {
     let mut random = Random::new(seed);
     for i in 0..count {
-        let size = if i % 200 == 0 { 700 } else if i % 20 == 0 { 200 } else { 30 };
+        let size = if i % 200 == 0 {
+            700
+        } else if i % 20 == 0 {
+            200
+        } else {
+            30
+        };
         let level = levels::any(&mut random, size);
         body(&mut random, &level);
     }
 }
 
-fn small(check: &mut Check, call: impl Fn(&mut Check, &Level, u32, u64) -> u64) {
-    for level in levels::small() {
+fn refinements(check: &mut Check, seed: u64, count: u64, call: fn(&mut Check, &Level, u32, u64) -> u64) {
+    drawn(seed, count, |random, level| {
+        call(check, level, some_imbalance(random), random.pick(&PASSES));
+    });
+}
+
+fn small(check: &mut Check, levels: impl Iterator<Item = Level>, call: fn(&mut Check, &Level, u32, u64) -> u64) {
+    for level in levels {
         for t in [0, 334, 500] {
             for passes in [1, u64::MAX] {
                 call(check, &level, t, passes);
             }
         }
+    }
+}
+
+/// As many vertices, entries and ranks, and as much weight, as there may be.
+fn at_the_limits(check: &mut Check, random: &mut Random) {
+    for level in levels::large(random) {
+        let t = some_imbalance(random);
+        coarsen(check, &level);
+        seeds(check, &level);
+        growth(check, &level, t);
+        moves(check, &level, t, u64::MAX);
+        swaps(check, &level, t, u64::MAX);
     }
 }
 
@@ -185,18 +213,18 @@ pub fn compare(report: &mut Report, seed: u64, count: u64) {
     report.check("weighted_multisource_partition", &[0, 6, 7, 8], |c| {
         drawn(seed, count, |random, level| growth(c, level, some_imbalance(random)));
     });
-    report.check("refine_by_cut, all small levels", &[0, 2, 9], |c| small(c, moves));
-    report.check("refine_by_cut", &[0, 2, 9], |c| {
-        drawn(seed, count, |random, level| drop(moves(c, level, some_imbalance(random), random.pick(&PASSES))));
-    });
+    report.check("refine_by_cut", &[0, 2, 9], |c| refinements(c, seed, count, moves));
+    report.check("refine_by_cut, all small levels", &[0, 2, 9], |c| small(c, levels::small(), moves));
     report.check("refine_by_cut, chains of moves", &[0, 9], chains_of_moves);
-    report.check("refine_fine_pair_swaps, all small levels", &[0, 2, 9], |c| small(c, swaps));
-    report.check("refine_fine_pair_swaps", &[0, 2, 9], |c| {
-        drawn(seed, count, |random, level| drop(swaps(c, level, some_imbalance(random), random.pick(&PASSES))));
+    report.check("refine_fine_pair_swaps", &[0, 2, 9], |c| refinements(c, seed, count, swaps));
+    report.check("refine_fine_pair_swaps, all small levels", &[0, 2, 9], |c| {
+        let unit = |level: &Level| level.weights.iter().all(|&w| w == 1);
+        small(c, levels::small().filter(unit), swaps);
     });
     report.check("refine_fine_pair_swaps, chains of swaps", &[0], chains_of_swaps);
-    report.check("the stages on levels that are refused", &[3, 4, 5, 12], |c| {
+    report.check("the stages at the limits", &[0], |c| at_the_limits(c, &mut Random::new(seed)));
+    report.check("the stages on spoilt levels", &[0, 3, 4, 5, 12], |c| {
         let mut random = Random::new(seed);
-        (0..count).for_each(|_| refused(c, &mut random));
+        (0..count).for_each(|_| spoilt(c, &mut random));
     });
 }

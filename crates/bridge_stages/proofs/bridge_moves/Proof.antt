@@ -3,62 +3,44 @@ use Rattle.bridge_stages.proofs.StageLaws.{within, moves-refused, refin
 use borrow.Author.Needs.{needs}
 use Rattle.bridge_stages.proofs.bridge_moves.Statement.{statement}
 use Rattle.bridge_stages.proofs.bridge_moves.Tie as tie
-use Rattle.bridge_stages.proofs.bridge_moves.Reads as reads
-use Rattle.bridge_stages.proofs.bridge_moves.Lts as lts
-use Rattle.bridge_stages.proofs.lent.enter.Reads as enter-reads
-use Rattle.bridge_stages.proofs.lent.place_of.Reads as place-of-reads
-use Rattle.links.proofs.index.Reads as index-reads
-use Rattle.stages.proofs.refine_by_cut.Reads as refine-by-cut-reads
 
 -- what the function was handed
 abbrev given : tie.Start → Lent
 given s = lent (s .args .offsets .now) (s .args .neighbors .now) (s .args .weights .now) (s .args .owners .now) (s .args .ranks)
 
--- src/lib.rt:131:9
 enter-requires : tie.Need-enter-requires
 enter-requires c κs = search needs
 
--- src/lib.rt:133:9
 same-length : tie.Need-same-length
 same-length c = search needs
 
--- src/lib.rt:133:9
 returns : tie.Need-returns
 returns c = moves-refused (given (c .before .before .before .before .before .before .before .before .before .before)) _ _ _ (c .before .before .before .enter .ensures) (c .if1 .taken) (c .before .before .before .before .before .before .before .before .before .before .args .floor) (c .before .before .before .before .before .before .before .before .before .before .args .cap) (c .before .before .before .before .before .before .before .before .before .before .args .passes)
 
--- src/lib.rt:135:9
 place-of-requires : tie.Need-place-of-requires
 place-of-requires c κs = within (given (c .before .before .before .before .before .before .before .before .before .before)) _ _ _ (c .before .before .before .enter .ensures) (c .if1 .left)
 
--- src/lib.rt:137:16
 index-requires : tie.Need-index-requires
 index-requires c κs = search needs
 
--- src/lib.rt:141:11
 refine-by-cut-requires : tie.Need-refine-by-cut-requires
 refine-by-cut-requires c κs = refinable (given (c .before .before .before .before .before .before .before .before .before .before .before .before .before)) _ _ _ (c .before .before .before .before .before .before .enter .ensures) (c .before .before .before .if1 .left) (c .before .before .place-of .result) (c .before .before .place-of .ensures) (c .before .index .result) (c .before .index .ensures) (c .before .before .before .before .before .before .before .before .before .before .before .before .before .args .floor) (c .before .before .before .before .before .before .before .before .before .before .before .before .before .args .cap) (c .before .before .before .before .before .before .before .before .before .before .before .before .before .args .passes)
 
--- src/lib.rt:142:24
 enum-known-n : tie.Need-enum-known-n
 enum-known-n c = search needs
 
--- src/lib.rt:146:26
 enum-known-number : tie.Need-enum-known-number
 enum-known-number c = search needs
 
--- src/lib.rt:115:1
 same-length-2 : tie.Need-same-length-2
 same-length-2 c = search needs
 
--- src/lib.rt:115:1
 returns-2 : tie.Need-returns-2
 returns-2 c = moved-told (given (c .before .before .before .before .before .before .before .before .before .before .before .before .before .before .before .before .before .before .before)) _ _ _ (c .before .before .before .before .before .before .before .before .before .before .before .before .enter .ensures) (c .before .before .before .before .before .before .before .before .before .if1 .left) (c .before .before .before .before .before .before .before .before .place-of .result) (c .before .before .before .before .before .before .before .before .place-of .ensures) (c .before .before .before .before .before .before .before .index .result) (c .before .before .before .before .before .before .before .index .ensures) (c .before .before .before .before .before .before .before .before .before .before .before .before .before .before .before .before .before .before .before .args .floor) (c .before .before .before .before .before .before .before .before .before .before .before .before .before .before .before .before .before .before .before .args .cap) (c .before .before .before .before .before .before .before .before .before .before .before .before .before .before .before .before .before .before .before .args .passes) _ _ (rw (c .before .n .given .1) at (c .before .before .before .before .before .refine-by-cut .ensures))
 
--- src/lib.rt:115:1
 same-length-3 : tie.Need-same-length-3
 same-length-3 c = search needs
 
--- src/lib.rt:115:1
 returns-3 : tie.Need-returns-3
 returns-3 c = moved-told (given (c .before .before .before .before .before .before .before .before .before .before .before .before .before .before .before .before .before .before .before)) _ _ _ (c .before .before .before .before .before .before .before .before .before .before .before .before .enter .ensures) (c .before .before .before .before .before .before .before .before .before .if1 .left) (c .before .before .before .before .before .before .before .before .place-of .result) (c .before .before .before .before .before .before .before .before .place-of .ensures) (c .before .before .before .before .before .before .before .index .result) (c .before .before .before .before .before .before .before .index .ensures) (c .before .before .before .before .before .before .before .before .before .before .before .before .before .before .before .before .before .before .before .args .floor) (c .before .before .before .before .before .before .before .before .before .before .before .before .before .before .before .before .before .before .before .args .cap) (c .before .before .before .before .before .before .before .before .before .before .before .before .before .before .before .before .before .before .before .args .passes) _ _ (rw (c .before .number .given .1) at (c .before .before .before .before .before .refine-by-cut .ensures))
 

@@ -5,37 +5,26 @@ use Rattle.bridge_stages.proofs.LentLaws.{passed, level-fits, level-in}
 use borrow.Author.Needs.{needs}
 use Rattle.bridge_stages.proofs.lent.enter.Statement.{statement}
 use Rattle.bridge_stages.proofs.lent.enter.Tie as tie
-use Rattle.bridge_stages.proofs.lent.enter.Reads as reads
-use Rattle.bridge_stages.proofs.lent.enter.Lts as lts
-use Rattle.bridge_stages.proofs.lent.lay_level.Reads as lay-level-reads
-use Rattle.bridge_stages.proofs.lent.lent_cause.Reads as lent-cause-reads
-use Rattle.bridge_stages.proofs.lent.place_of.Reads as place-of-reads
 
 -- what the function was handed
 abbrev given : tie.Start → Lent
 given s = lent (s .args .offsets .now) (s .args .neighbors .now) (s .args .weights .now) (s .args .owners .now) (s .args .ranks)
 
--- src/lent.rt:194:9
 lent-cause-requires : tie.Need-lent-cause-requires
 lent-cause-requires c κs = search needs
 
--- src/lent.rt:196:9
 returns : tie.Need-returns
 returns c = record { cause = c .before .lent-cause .ensures; refused = λ _. refl; laid = λ z. absurd (c .if1 .taken z) }
 
--- src/lent.rt:198:9
 place-of-requires : tie.Need-place-of-requires
 place-of-requires c κs = passed (given (c .before .before .before .before .before .before .before)) (length (c .before .before .before .before .before .before .before .args .work .now)) (sym (c .before .lent-cause .ensures) ∙ c .if1 .left) .limits
 
--- src/lent.rt:199:5
 lay-level-requires : tie.Need-lay-level-requires
 lay-level-requires c κs = level-fits (given (c .before .before .before .before .before .before .before .before .before)) (c .before .before .before .before .before .before .before .before .before .args .work .now) (sym (c .before .before .before .lent-cause .ensures) ∙ c .before .before .if1 .left) (c .before .place-of .result) (c .before .place-of .ensures)
 
--- src/lent.rt:184:1
 same-length : tie.Need-same-length
 same-length c = search needs
 
--- src/lent.rt:184:1
 returns-2 : tie.Need-returns-2
 returns-2 c = record { cause = sym (c .before .before .before .before .before .if1 .left) ∙ c .before .before .before .before .before .before .lent-cause .ensures; refused = λ f. absurd (f refl); laid = λ _. level-in (given (c .before .before .before .before .before .before .before .before .before .before .before .before)) (c .before .before .before .before .before .before .before .before .before .before .before .before .args .work .now) (sym (c .before .before .before .before .before .before .lent-cause .ensures) ∙ c .before .before .before .before .before .if1 .left) (c .before .before .before .before .place-of .result) (c .before .before .before .before .place-of .ensures) _ (c .before .before .lay-level .ensures) }
 

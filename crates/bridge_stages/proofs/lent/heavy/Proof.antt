@@ -1,5 +1,5 @@
 use Prim.Native.Nat.{_≤_, _<_, _-_, _+_, _^_}
-use mathlib.Core.Path.{_≡_, refl, sym, _∙_}
+use mathlib.Core.Path.{_≡_, sym}
 use native.Mathlib.Omega.{arith}
 use lib.ListN.{length, drop, drop-of-length-le}
 use borrow.Author.Tests.{le-leb, lt-leb}
@@ -8,9 +8,6 @@ use Rattle.bridge_stages.proofs.LentLaws.{sum-drop}
 use borrow.Author.Needs.{needs}
 use Rattle.bridge_stages.proofs.lent.heavy.Statement.{statement}
 use Rattle.bridge_stages.proofs.lent.heavy.Tie as tie
-use Rattle.bridge_stages.proofs.lent.heavy.Reads as reads
-use Rattle.bridge_stages.proofs.lent.heavy.Lts as lts
-use Rattle.links.proofs.wide.Reads as wide-reads
 
 abbrev Inv-loop : tie.InvT-loop
 Inv-loop weights total₀ i₀ total i = (i ≤ length weights) × (total < 2 ^ 31) × (total + sum (drop i weights) ≡ sum weights)
@@ -18,43 +15,33 @@ Inv-loop weights total₀ i₀ total i = (i ≤ length weights) × (total < 2 ^ 
 abbrev μ-loop : tie.MeasureT-loop
 μ-loop weights total₀ i₀ total i = length weights - i
 
--- src/lent.rt:74:5
 loop-holds : tie.Need-loop-holds Inv-loop μ-loop
 loop-holds c = (omega arith, omega arith, omega arith)
 
--- src/lent.rt:75:30
 mul-wide : tie.Need-mul-wide Inv-loop μ-loop
 mul-wide c = search needs
 
--- src/lent.rt:75:30
 shared-slice-read-wide : tie.Need-shared-slice-read-wide Inv-loop μ-loop
 shared-slice-read-wide c = search needs
 
--- src/lent.rt:75:25
 wide-requires : tie.Need-wide-requires Inv-loop μ-loop
 wide-requires c κs = search needs
 
--- src/lent.rt:75:17
 add-total : tie.Need-add-total Inv-loop μ-loop
 add-total c = omega (arith, c .before .shared-slice-known2 .given (c .before .before .before .loop .i), c .wide .ensures)
 
--- src/lent.rt:77:13
 returns : tie.Need-returns Inv-loop μ-loop
 returns c = sym (le-leb (2 ^ 31) (sum (c .before .before .before .before .before .before .args .weights .now)) (omega (arith, c .before .wide .ensures, c .before .before .before .before .loop .inv .2, sum-drop (c .before .before .before .before .before .before .args .weights .now) (c .before .before .before .before .loop .i) (c .before .before .before .loop-test .taken), c .if1 .taken)))
 
--- src/lent.rt:79:9
 add-i : tie.Need-add-i Inv-loop μ-loop
 add-i c = search needs
 
--- src/lent.rt:74:5
 loop-less : tie.Need-loop-less Inv-loop μ-loop
 loop-less c = search needs
 
--- src/lent.rt:74:5
 loop-again : tie.Need-loop-again Inv-loop μ-loop
 loop-again c = (omega arith, omega (arith, c .if1 .left), omega (arith, c .before .wide .ensures, c .before .before .before .before .loop .inv .2, sum-drop (c .before .before .before .before .before .before .args .weights .now) (c .before .before .before .before .loop .i) (c .before .before .before .loop-test .taken)))
 
--- src/lent.rt:69:1
 returns-2 : tie.Need-returns-2 Inv-loop μ-loop
 returns-2 c = sym (lt-leb (2 ^ 31) (sum (c .before .before .before .args .weights .now)) (omega (arith, c .before .loop .inv .1, rw (drop-of-length-le (c .before .before .before .args .weights .now) (c .loop-test .left)) at (c .before .loop .inv .2))))
 

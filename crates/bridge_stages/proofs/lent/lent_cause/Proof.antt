@@ -5,50 +5,35 @@ use Rattle.bridge_stages.proofs.LentLaws.{cause-is, limited, lists-bad,
 use borrow.Author.Needs.{needs}
 use Rattle.bridge_stages.proofs.lent.lent_cause.Statement.{statement}
 use Rattle.bridge_stages.proofs.lent.lent_cause.Tie as tie
-use Rattle.bridge_stages.proofs.lent.lent_cause.Reads as reads
-use Rattle.bridge_stages.proofs.lent.lent_cause.Lts as lts
-use Rattle.bridge_stages.proofs.lent.misfits.Reads as misfits-reads
-use Rattle.bridge_stages.proofs.lent.over_limits.Reads as over-limits-reads
-use Rattle.bridge_stages.proofs.lent.stray_owner.Reads as stray-owner-reads
-use Rattle.links.proofs.lists_cause.Reads as lists-cause-reads
 
 -- what the function was handed
 abbrev given : tie.Start → Lent
 given s = lent (s .args .offsets .now) (s .args .neighbors .now) (s .args .weights .now) (s .args .owners .now) (s .args .ranks)
 
--- src/lent.rt:151:8
 over-limits-requires : tie.Need-over-limits-requires
 over-limits-requires c κs = search needs
 
--- src/lent.rt:152:9
 returns : tie.Need-returns
 returns c = cause-is (given (c .before .before .before .before .before .before)) (c .before .before .before .before .before .before .args .work) true _ _ _ (sym (c .before .over-limits .ensures) ∙ c .if1 .taken) refl refl refl
 
--- src/lent.rt:154:8
 lists-cause-requires : tie.Need-lists-cause-requires
 lists-cause-requires c κs = search needs
 
--- src/lent.rt:155:9
 returns-2 : tie.Need-returns-2
 returns-2 c = cause-is (given (c .before .before .before .before .before .before .before .before)) (c .before .before .before .before .before .before .before .before .args .work) false true _ _ (sym (c .before .before .before .over-limits .ensures) ∙ c .before .before .if1 .left) (lists-bad _ _ _ (c .before .lists-cause .ensures .cause) (c .if2 .taken)) refl refl
 
--- src/lent.rt:157:8
 misfits-requires : tie.Need-misfits-requires
 misfits-requires c κs = limited (given (c .before .before .before .before .before .before .before .before)) (sym (c .before .before .before .over-limits .ensures) ∙ c .before .before .if1 .left) .0
 
--- src/lent.rt:158:9
 returns-3 : tie.Need-returns-3
 returns-3 c = cause-is (given (c .before .before .before .before .before .before .before .before .before .before)) (c .before .before .before .before .before .before .before .before .before .before .args .work) false false true _ (sym (c .before .before .before .before .before .over-limits .ensures) ∙ c .before .before .before .before .if1 .left) (lists-fine _ _ _ (c .before .before .before .lists-cause .ensures .cause) (c .before .before .if2 .left)) (sym (c .before .misfits .ensures) ∙ c .if3 .taken) refl
 
--- src/lent.rt:160:8
 stray-owner-requires : tie.Need-stray-owner-requires
 stray-owner-requires c κs = search needs
 
--- src/lent.rt:161:9
 returns-4 : tie.Need-returns-4
 returns-4 c = cause-is (given (c .before .before .before .before .before .before .before .before .before .before .before .before)) (c .before .before .before .before .before .before .before .before .before .before .before .before .args .work) false false false true (sym (c .before .before .before .before .before .before .before .over-limits .ensures) ∙ c .before .before .before .before .before .before .if1 .left) (lists-fine _ _ _ (c .before .before .before .before .before .lists-cause .ensures .cause) (c .before .before .before .before .if2 .left)) (sym (c .before .before .before .misfits .ensures) ∙ c .before .before .if3 .left) (sym (c .before .stray-owner .ensures) ∙ c .if4 .taken)
 
--- src/lent.rt:141:1
 returns-5 : tie.Need-returns-5
 returns-5 c = cause-is (given (c .before .before .before .before .before .before .before .before .before .before .before .before)) (c .before .before .before .before .before .before .before .before .before .before .before .before .args .work) false false false false (sym (c .before .before .before .before .before .before .before .over-limits .ensures) ∙ c .before .before .before .before .before .before .if1 .left) (lists-fine _ _ _ (c .before .before .before .before .before .lists-cause .ensures .cause) (c .before .before .before .before .if2 .left)) (sym (c .before .before .before .misfits .ensures) ∙ c .before .before .if3 .left) (sym (c .before .stray-owner .ensures) ∙ c .if4 .left)
 

@@ -3,54 +3,40 @@ use Rattle.bridge_stages.proofs.LentLaws.{need-small}
 use borrow.Author.Needs.{needs}
 use Rattle.bridge_stages.proofs.lent.need_for.Statement.{statement}
 use Rattle.bridge_stages.proofs.lent.need_for.Tie as tie
-use Rattle.bridge_stages.proofs.lent.need_for.Reads as reads
-use Rattle.bridge_stages.proofs.lent.need_for.Lts as lts
 
--- src/lent.rt:65:10
 mul-result : tie.Need-mul-result
 mul-result c = search needs
 
--- src/lent.rt:65:10
 add-result : tie.Need-add-result
 add-result c = search needs
 
--- src/lent.rt:65:10
 add-result-2 : tie.Need-add-result-2
 add-result-2 c = search needs
 
--- src/lent.rt:65:5
 mul-result-2 : tie.Need-mul-result-2
 mul-result-2 c = search needs
 
--- src/lent.rt:65:27
 mul-result-3 : tie.Need-mul-result-3
 mul-result-3 c = search needs
 
--- src/lent.rt:65:5
 add-result-3 : tie.Need-add-result-3
 add-result-3 c = search needs
 
--- src/lent.rt:65:35
 mul-result-4 : tie.Need-mul-result-4
 mul-result-4 c = search needs
 
--- src/lent.rt:65:5
 add-result-4 : tie.Need-add-result-4
 add-result-4 c = search needs
 
--- src/lent.rt:65:49
 mul-result-5 : tie.Need-mul-result-5
 mul-result-5 c = omega (arith, need-small (c .args .k) (c .pre .few-ranks))
 
--- src/lent.rt:65:43
 mul-result-6 : tie.Need-mul-result-6
 mul-result-6 c = omega (arith, need-small (c .args .k) (c .pre .few-ranks))
 
--- src/lent.rt:65:5
 add-result-5 : tie.Need-add-result-5
 add-result-5 c = omega (arith, need-small (c .args .k) (c .pre .few-ranks))
 
--- src/lent.rt:61:1
 returns : tie.Need-returns
 returns c = search needs
 

@@ -3,65 +3,46 @@ use Rattle.bridge_stages.proofs.LentLaws.{place-is}
 use borrow.Author.Needs.{needs}
 use Rattle.bridge_stages.proofs.lent.place_of.Statement.{statement}
 use Rattle.bridge_stages.proofs.lent.place_of.Tie as tie
-use Rattle.bridge_stages.proofs.lent.place_of.Reads as reads
-use Rattle.bridge_stages.proofs.lent.place_of.Lts as lts
-use Rattle.bridge_stages.proofs.lent.level_at.Reads as level-at-reads
-use Rattle.links.proofs.vertex_count.Reads as vertex-count-reads
-use Rattle.links.proofs.index.Reads as index-reads
 
--- src/lent.rt:48:9
 vertex-count-requires : tie.Need-vertex-count-requires
 vertex-count-requires c κs = search needs
 
--- src/lent.rt:50:16
 mul-unit : tie.Need-mul-unit
 mul-unit c = search needs
 
--- src/lent.rt:50:16
 add-unit : tie.Need-add-unit
 add-unit c = search needs
 
--- src/lent.rt:50:16
 add-unit-2 : tie.Need-add-unit-2
 add-unit-2 c = search needs
 
--- src/lent.rt:51:9
 level-at-requires : tie.Need-level-at-requires
 level-at-requires c κs = search needs
 
--- src/lent.rt:52:9
 level-at-requires-2 : tie.Need-level-at-requires-2
 level-at-requires-2 c κs = search needs
 
--- src/lent.rt:56:18
 mul-t9 : tie.Need-mul-t9
 mul-t9 c = search needs
 
--- src/lent.rt:57:16
 mul-t10 : tie.Need-mul-t10
 mul-t10 c = search needs
 
--- src/lent.rt:57:27
 mul-t11 : tie.Need-mul-t11
 mul-t11 c = search needs
 
--- src/lent.rt:57:16
 add-t12 : tie.Need-add-t12
 add-t12 c = search needs
 
--- src/lent.rt:57:39
 index-requires : tie.Need-index-requires
 index-requires c κs = search needs
 
--- src/lent.rt:57:35
 mul-t14 : tie.Need-mul-t14
 mul-t14 c = search needs
 
--- src/lent.rt:57:16
 add-t15 : tie.Need-add-t15
 add-t15 c = search needs
 
--- src/lent.rt:44:1
 returns : tie.Need-returns
 returns c = place-is (length (c .before .before .before .before .before .before .args .neighbors .now)) (c .before .before .before .vertex-count .ensures) (c .index .ensures) (c .before .before .level-at .ensures) (c .before .level-at2 .ensures)
 
