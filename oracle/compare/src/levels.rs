@@ -16,6 +16,16 @@ impl Level {
         self.weights.iter().map(|&w| u64::from(w)).sum()
     }
 
+    /// With a lone vertex of no weight more for each rank. No rank is empty, nor comes to be; for the Rust hands out no owners then.
+    fn attended(mut self) -> Self {
+        for r in 0..self.ranks {
+            self.offsets.push(self.neighbors.len() as u32);
+            self.weights.push(0);
+            self.owners.push(r);
+        }
+        self
+    }
+
     pub fn rows(&self) -> Vec<Vec<usize>> {
         Site { offsets: self.offsets.clone(), neighbors: self.neighbors.clone() }.rows()
     }
@@ -37,8 +47,7 @@ fn some_weights(random: &mut Random, n: usize) -> Vec<u32> {
     (0..n).map(|_| one(random).min(most) as u32).collect()
 }
 
-/// At random; in blocks; by turns; few of the ranks, so that others are empty; mostly one; one alone. Half of the time each rank
-/// gets a vertex, whatever the kind: the Rust hands out no owners where a rank is empty.
+/// At random; in blocks; by turns; few of the ranks, so that others are empty; mostly one; one alone.
 fn some_owners(random: &mut Random, n: usize, ranks: u32) -> Vec<u32> {
     let few = 1 + random.below(u64::from(ranks)) as u32;
     let first = random.below(u64::from(ranks)) as u32;
@@ -51,35 +60,48 @@ fn some_owners(random: &mut Random, n: usize, ranks: u32) -> Vec<u32> {
         4 if random.once_in(4) => random.below(u64::from(ranks)) as u32,
         _ => first,
     };
-    let mut owners: Vec<u32> = (0..n).map(|v| one(random, v)).collect();
-    if ranks as usize <= n && random.once_in(2) {
-        (0..ranks).for_each(|r| owners[r as usize * n / ranks as usize] = r);
-    }
-    owners
+    (0..n).map(|v| one(random, v)).collect()
 }
 
-/// A level of up to `size` vertices, of any shape, weights and owners; now and then of more ranks than vertices.
+/// A level of up to `size` vertices, of any shape, weights and owners, half of the time attended; now and then of more ranks than
+/// vertices.
 pub fn any(random: &mut Random, size: usize) -> Level {
     let site = sites::any(random, size);
     let n = site.vertices();
     let most = random.pick(&[2, 3, 8, 64]).min(n + 1);
     let ranks = 1 + random.index(most) as u32;
     let (weights, owners) = (some_weights(random, n), some_owners(random, n, ranks));
-    Level::new(site, weights, owners, ranks)
+    let level = Level::new(site, weights, owners, ranks);
+    if random.once_in(2) { level.attended() } else { level }
 }
 
-/// All graphs of up to four vertices, all owners of up to three ranks, and some weights.
+/// All graphs of up to `most` vertices.
+fn graphs(most: usize) -> impl Iterator<Item = Site> {
+    (1..=most).flat_map(|n| (0..1u64 << (n * (n - 1) / 2)).map(move |code| sites::numbered(n, code)))
+}
+
+/// One owner list on a graph, with weights of 1 and with others.
+fn weighed(site: &Site, owners: &[u32], ranks: u32) -> [Level; 2] {
+    let n = site.vertices();
+    [vec![1; n], [1, 2, 0, 3, 1][..n].to_vec()].map(|weights| Level::new(site.clone(), weights, owners.to_vec(), ranks))
+}
+
+/// All graphs of up to five vertices and up to four ranks; rank 0 owns all.
 pub fn small() -> impl Iterator<Item = Level> {
-    let graphs = (1..=4usize).flat_map(|n| (0..1u64 << (n * (n - 1) / 2)).map(move |code| sites::numbered(n, code)));
-    graphs.flat_map(|site| (1..=3u32).flat_map(move |ranks| all_owners(site.clone(), ranks)))
+    graphs(5).flat_map(|site| (1..=4).flat_map(move |ranks| weighed(&site, &vec![0; site.vertices()], ranks)))
+}
+
+/// All graphs of up to four vertices, and all owners of up to three ranks; each attended too.
+pub fn small_owned() -> impl Iterator<Item = Level> {
+    let levels = graphs(4).flat_map(|site| (1..=3u32).flat_map(move |ranks| all_owners(site.clone(), ranks)));
+    levels.flat_map(|level| [level.clone(), level.attended()])
 }
 
 fn all_owners(site: Site, ranks: u32) -> impl Iterator<Item = Level> {
-    let n = site.vertices();
-    (0..ranks.pow(n as u32)).flat_map(move |code| {
-        let owners: Vec<u32> = (0..n as u32).map(|v| code / ranks.pow(v) % ranks).collect();
-        let weights = [vec![1; n], vec![1, 2, 0, 3][..n].to_vec()];
-        weights.map(|w| Level::new(site.clone(), w, owners.clone(), ranks))
+    let n = site.vertices() as u32;
+    (0..ranks.pow(n)).flat_map(move |code| {
+        let owners: Vec<u32> = (0..n).map(|v| code / ranks.pow(v) % ranks).collect();
+        weighed(&site, &owners, ranks)
     })
 }
 

@@ -185,12 +185,18 @@ fn refinements(check: &mut Check, seed: u64, count: u64, call: fn(&mut Check, &L
     });
 }
 
-fn small(check: &mut Check, levels: impl Iterator<Item = Level>, call: fn(&mut Check, &Level, u32, u64) -> u64) {
+fn small(check: &mut Check) {
+    for level in levels::small() {
+        coarsen(check, &level);
+        seeds(check, &level);
+        [0, 200, 334, 500].map(|t| growth(check, &level, t));
+    }
+}
+
+fn small_owned(check: &mut Check, levels: impl Iterator<Item = Level>, call: fn(&mut Check, &Level, u32, u64) -> u64) {
     for level in levels {
         for t in [0, 334, 500] {
-            for passes in [1, u64::MAX] {
-                call(check, &level, t, passes);
-            }
+            [1, u64::MAX].map(|passes| call(check, &level, t, passes));
         }
     }
 }
@@ -213,13 +219,14 @@ pub fn compare(report: &mut Report, seed: u64, count: u64) {
     report.check("weighted_multisource_partition", &[0, 6, 7, 8], |c| {
         drawn(seed, count, |random, level| growth(c, level, some_imbalance(random)));
     });
+    report.check("coarsening, seeds and growth, all small levels", &[0, 6, 7, 8], small);
     report.check("refine_by_cut", &[0, 2, 9], |c| refinements(c, seed, count, moves));
-    report.check("refine_by_cut, all small levels", &[0, 2, 9], |c| small(c, levels::small(), moves));
+    report.check("refine_by_cut, all small levels", &[0, 2, 9], |c| small_owned(c, levels::small_owned(), moves));
     report.check("refine_by_cut, chains of moves", &[0, 9], chains_of_moves);
     report.check("refine_fine_pair_swaps", &[0, 2, 9], |c| refinements(c, seed, count, swaps));
     report.check("refine_fine_pair_swaps, all small levels", &[0, 2, 9], |c| {
-        let unit = |level: &Level| level.weights.iter().all(|&w| w == 1);
-        small(c, levels::small().filter(unit), swaps);
+        let unit = |level: &Level| level.weights.iter().all(|&w| w <= 1);
+        small_owned(c, levels::small_owned().filter(unit), swaps);
     });
     report.check("refine_fine_pair_swaps, chains of swaps", &[0], chains_of_swaps);
     report.check("the stages at the limits", &[0], |c| at_the_limits(c, &mut Random::new(seed)));
