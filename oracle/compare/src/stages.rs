@@ -189,14 +189,18 @@ fn small(check: &mut Check) {
     for level in levels::small() {
         coarsen(check, &level);
         seeds(check, &level);
-        [0, 200, 334, 500].map(|t| growth(check, &level, t));
+        for t in [0, 200, 334, 500] {
+            growth(check, &level, t);
+        }
     }
 }
 
 fn small_owned(check: &mut Check, levels: impl Iterator<Item = Level>, call: fn(&mut Check, &Level, u32, u64) -> u64) {
     for level in levels {
         for t in [0, 334, 500] {
-            [1, u64::MAX].map(|passes| call(check, &level, t, passes));
+            for passes in [1, u64::MAX] {
+                call(check, &level, t, passes);
+            }
         }
     }
 }
