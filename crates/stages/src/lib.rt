@@ -15,4 +15,5 @@ pub use level::HierarchyLevel;
 pub use level::Limits;
 pub use moves::Refined;
 pub use moves::refine_by_cut;
+pub use seeds::farthest_seeds;
 pub use swaps::refine_fine_pair_swaps;

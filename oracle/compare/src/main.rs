@@ -1,15 +1,17 @@
-//! Compares Hipstern, through the archive of crate bridge, with the Rust (crate reference).
+//! Compares Hipstern, through the archives of crates bridge and bridge_stages, with the Rust (crate reference).
 //!
 //!     compare [--seed NUMBER] [--count NUMBER]
 //!
 //! The count is how many random inputs a check draws (20000 if not given). The exit status is 1 where an answer differs.
 mod byhand;
 mod division;
+mod levels;
 mod link_file;
 mod links;
 mod report;
+mod stages;
 
-use compare::bridge;
+use compare::{bridge, bridge_stages};
 use report::Report;
 
 fn main() {
@@ -29,6 +31,7 @@ fn main() {
     byhand::check(&mut report, seed, count);
     links::compare(&mut report, seed, count);
     link_file::compare(&mut report, seed, count);
+    stages::compare(&mut report, seed, count);
     division::compare(&mut report, seed, count);
     std::process::exit(if report.end() { 0 } else { 1 });
 }
