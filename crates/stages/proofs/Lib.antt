@@ -34,6 +34,8 @@ pub mod SwapPassLaws
 pub mod RankLaws
 pub mod LevelLaws
 pub mod CoarsenOrderLaws
+pub mod OrderLaws
+pub mod OrderSliceLaws
 pub mod CoarsenChoiceLaws
 pub mod CoarsenTurnLaws
 pub mod CoarsenMarkLaws

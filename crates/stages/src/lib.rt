@@ -3,6 +3,7 @@ mod coarsen;
 mod growth;
 mod level;
 mod moves;
+mod order;
 mod seeds;
 mod slots;
 mod swaps;
