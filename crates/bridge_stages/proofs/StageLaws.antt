@@ -176,7 +176,7 @@ module _ (s : Lent) (w w₁ : List ℕ) (number : ℕ) (e : Entered s w w₁ num
           }
 
       pub growable : Growable w₁ (p .level) (p .scratch) k
-      growable = rw (at-place, at-ranks) (record { level = ready-below; room = omega (arith, here .room) })
+      growable = rw (at-place, at-ranks) (record { level = ready-below; few-ranks = here .limits .few-ranks; room = omega (arith, here .room) })
 
       module _ (cap : ℕ) (w₂ : List ℕ) (a : Grown) (r₀ : GrownTold w₁ w₂ (p .level) (p .scratch) k cap a) where
         grown-here : GrownTold w₁ w₂ (placeOf s .level) (placeOf s .scratch) (s .ranks) cap a
