@@ -1,7 +1,7 @@
 -- Rule 7's listing in the work slice: a vertex is offered to the list of each other rank among its neighbors' owners, once. Assumes nothing.
 use Prim.Native.Nat.{ℕ, zero, suc, _+_, _-_, _*_, _≤_, _<_}
 use mathlib.Core.Path.{_≡_, refl, sym, ap, _∙_}
-use mathlib.Core.Bool.{true, false}
+use mathlib.Core.Bool.{Bool, true, false, not, cond, true≢false}
 use mathlib.Core.List.{List}
 use mathlib.Core.Logic.{_⊎_, inl, inr, ⊎-elim}
 use native.Mathlib.Omega.{arith}
@@ -10,18 +10,18 @@ use lib.Dec.{eqb, ltb}
 use lib.ListN.{length, set, take, length-set}
 use lib.Seq.{getD-set-same, getD-set-other}
 use borrow.Author.Tests.{eq-eqb, ne-eqb, eqb-true, eqb-false, ltb-true, ltb-false, lt-ltb, le-ltb}
-use Rattle.links.specs.Lists.{at, insert}
+use Rattle.links.specs.Lists.{at, any, insert}
 use Rattle.links.specs.Parts.{part, putBack, Kept}
-use Rattle.links.specs.Graph.{linksIn, linksTo}
-use Rattle.links.proofs.ListLaws.{split, tally}
+use Rattle.links.specs.Graph.{row, linksIn, linksTo}
+use Rattle.links.proofs.ListLaws.{split, tally, any-of, to-any, elem-map}
 use Rattle.links.proofs.PartLaws.{getD-part, part-putBack, kept-refl, kept-trans, kept-wide, kept-set, kept-putBack, kept-part-before, kept-part-after}
 use Rattle.stages.specs.Level.{offsetsAt, neighborsAt, rowsAt, ownersAt}
 use Rattle.stages.specs.Swaps.{Candidate, ahead, candidates}
 use Rattle.stages.specs.Slots.{candidate, slots, Sorted}
 use Rattle.stages.specs.MovesCode.{Clear, Tallied}
-use Rattle.stages.specs.SwapsCode.{listPlace, listAt, Given, AllSorted, Offered, Waiting, Met, Offering, OfferedEntry, Listed, Holding}
+use Rattle.stages.specs.SwapsCode.{listPlace, listAt, Given, AllSorted, bordering, Offered, Waiting, Met, Offering, OfferedEntry, Listed, Holding}
 use Rattle.stages.specs.declared.swaps.SwapRoom.{SwapRoom}
-use Rattle.stages.proofs.TallyLaws.{links-cons, links-none}
+use Rattle.stages.proofs.TallyLaws.{any-cons, any-nothing, links-cons, links-none, links-some}
 use Rattle.stages.proofs.MovesSliceLaws.{neighbors-all, rows-all, neighbors-kept, row-part, row-ends, rows-kept, owners-kept}
 use Rattle.stages.proofs.SwapListLaws.{offer-other, offer-none, offer-some, listedTo, listed-more, listed-all}
 use Rattle.stages.proofs.SwapStepLaws.{given-after}
@@ -335,6 +335,76 @@ listed {w} {s} {v} g h a av w₁ w₂ w₃ k₁ o sorted₂ e₃ =
           o .others x y p q n ∙ list-kept s k₁ tin x y
           ∙ sym (offer-other 8 (rowsAt w l) (ownersAt w l) x y (listAt w s x y) v (ne-eqb _ _ (λ z. n (sym (av ∙ z))))));
     }
+
+-- ---- a vertex on no border
+
+-- a neighbor is of another rank than v
+abbrev foreign : List ℕ → SwapRoom → ℕ → ℕ → Bool
+foreign w s v u = not (eqb (at (ownersAt w (s .level)) u) (at (ownersAt w (s .level)) v))
+
+-- and one of those from entry i on
+abbrev pub borderFrom : List ℕ → SwapRoom → ℕ → ℕ → Bool
+borderFrom w s v i = any (foreign w s v) (part (neighborsAt w (s .level)) i (at (offsetsAt w (s .level)) (v + 1)))
+
+abbrev pub borderAt : List ℕ → SwapRoom → ℕ → Bool
+borderAt w s v = bordering (rowsAt w (s .level)) (ownersAt w (s .level)) v
+
+module _ {w : List ℕ} {s : SwapRoom} {v : ℕ} (g : Given w s) (h : v < s .level .vertices) where
+  pub border-start : borderFrom w s v (at (offsetsAt w (s .level)) v) ≡ borderAt w s v
+  unfolding bordering
+  border-start = ap (any (foreign w s v)) (sym (row-part (g .ready) v h))
+
+  pub border-end : borderFrom w s v (at (offsetsAt w (s .level)) (v + 1)) ≡ borderAt w s v → false ≡ borderAt w s v
+  border-end t = sym (any-nothing (foreign w s v) (neighborsAt w (s .level)) (at (offsetsAt w (s .level)) (v + 1))) ∙ t
+
+  -- a turn
+  module _
+      (home i r : ℕ) (a : home ≡ at (ownersAt w (s .level)) v) (to : i < at (offsetsAt w (s .level)) (v + 1))
+      (c : r ≡ at (ownersAt w (s .level)) (at (neighborsAt w (s .level)) i)) (t : borderFrom w s v i ≡ borderAt w s v) where
+    one : borderFrom w s v i ≡ cond (not (eqb r home)) true (borderFrom w s v (i + 1))
+    one =
+        any-cons (foreign w s v) (neighborsAt w (s .level)) i (at (offsetsAt w (s .level)) (v + 1)) to
+        (omega (arith, row-ends (g .ready) v h, neighbors-all (g .ready)))
+        ∙ rw (a, c)
+
+    pub border-here : (r ≡ home → ⊥) → true ≡ borderAt w s v
+    border-here d = sym (one ∙ rw (ne-eqb r home d)) ∙ t
+
+    pub border-next : r ≡ home → borderFrom w s v (i + 1) ≡ borderAt w s v
+    border-next e = sym (one ∙ rw (eq-eqb r home e)) ∙ t
+
+  -- it has no neighbor in another rank
+  no-links
+      : borderAt w s v ≡ false
+      → (b : ℕ)
+      → (at (ownersAt w (s .level)) v ≡ b → ⊥)
+      → ltb 0 (linksTo (rowsAt w (s .level)) (ownersAt w (s .level)) v b) ≡ false
+  unfolding bordering
+  no-links f b d =
+      let rows = rowsAt w (s .level) in
+      let os = ownersAt w (s .level) in
+      let n = linksTo rows os v b in
+      split (ltb 0 n)
+      (λ p.
+      let u = any-of (λ u. eqb b (at os u)) (row rows v) (sym (elem-map b (at os) (row rows v)) ∙ links-some (row rows v) os b (ltb-true 0 n p)) in
+      let e : b ≡ at os (u .0) = eqb-true b (at os (u .0)) (u .2) in
+      let y : foreign w s v (u .0) ≡ true = rw (ne-eqb (at os (u .0)) (at os v) (λ q. d (sym (e ∙ q)))) in
+      absurd (true≢false (sym (to-any (foreign w s v) (row rows v) (u .0) (u .1) y) ∙ f)))
+      (λ p. p)
+
+  -- it is listed nowhere
+  pub unlisted : (r : Bool) → r ≡ borderAt w s v → r ≡ false → Clear w (s .tallies) (s .limits .ranks) → AllSorted w s → Listed w w s v
+  unlisted r e f z o = record {
+    kept = kept-refl (s .tallies) (length w) w;
+    clear = z;
+    sorted = o;
+    lists = λ a b p q d.
+        let os = ownersAt w (s .level) in
+        split (eqb (at os v) a)
+        (λ x. let y : at os v ≡ a = eqb-true (at os v) a x in
+        sym (offer-none 8 (rowsAt w (s .level)) os a b (listAt w s a b) v (no-links (sym e ∙ f) b (λ n. d (sym y ∙ n)))))
+        (λ x. sym (offer-other 8 (rowsAt w (s .level)) os a b (listAt w s a b) v x));
+  }
 
 -- ---- what the code's steps come to
 

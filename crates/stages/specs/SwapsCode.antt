@@ -1,14 +1,14 @@
 -- What the code of rule 7 keeps in the work slice, and what it promises. Assumes nothing.
 use Prim.Native.Nat.{ℕ, suc, _+_, _-_, _*_, _≤_, _<_, _^_}
 use mathlib.Core.Path.{_≡_}
-use mathlib.Core.Bool.{not, _&&_, cond}
+use mathlib.Core.Bool.{Bool, not, _&&_, cond}
 use mathlib.Core.List.{List, [], _∷_}
 use mathlib.Core.Logic.{_⊎_}
 use lib.Dec.{ltb, eqb}
 use lib.ListN.{length, take, set}
-use Rattle.links.specs.Lists.{at, insert, foldl, elem, range, concatMap}
+use Rattle.links.specs.Lists.{at, any, insert, foldl, elem, range, concatMap}
 use Rattle.links.specs.Parts.{part, Kept}
-use Rattle.links.specs.Graph.{linksIn, linksTo}
+use Rattle.links.specs.Graph.{row, linksIn, linksTo}
 use Rattle.stages.specs.Level.{offsetsAt, neighborsAt, rowsAt, weightsAt, ownersAt, Ready, balanceIn}
 use Rattle.stages.specs.Moves.{Step, move, swap, after}
 use Rattle.stages.specs.Swaps.{Candidate, Proposal, ahead, sooner, propose, proposals, candidates, swapPass, allProposals, refineFinePairSwaps}
@@ -53,6 +53,10 @@ Marked w s used = (v : ℕ) → v < s .level .vertices → eqb (at w (s .used + 
 abbrev pub AllSorted : List ℕ → SwapRoom → Type 0
 AllSorted w s =
     (a b : ℕ) → a < s .limits .ranks → b < s .limits .ranks → Sorted candidate ahead 8 (part w (listPlace s a b) (listPlace s a b + 24))
+
+-- v has a neighbor of another rank
+unfoldable pub bordering : List (List ℕ) → List ℕ → ℕ → Bool
+bordering rows owners v = any (λ u. not (eqb (at owners u) (at owners v))) (row rows v)
 
 -- v's turn to be listed for ranks a and b
 unfoldable pub offerVertex : ℕ → List (List ℕ) → List ℕ → ℕ → ℕ → List Candidate → ℕ → List Candidate

@@ -12,7 +12,7 @@ ghost use Rattle.stages.specs.Moves.{linked, gain, swap};
 ghost use Rattle.stages.specs.Swaps.{ahead, inBalance, applies, proposals, allProposals};
 ghost use Rattle.stages.specs.Slots.{candidate, proposal, slots, Sorted};
 ghost use Rattle.stages.specs.MovesCode.{Clear, Tallied};
-ghost use Rattle.stages.specs.SwapsCode.{listPlace, Given, AllSorted, Offered, OfferedEntry, Offering, Listed, Empty, ListedAll, Standing, Marked, candidateOf, Fair, Named, proposed, changed, traded, Tradable, Swapped, Holding, Facing, Taken, rankProposals, passFrom, Stepped, swapsAt, Swappable, RefinedBySwaps};
+ghost use Rattle.stages.specs.SwapsCode.{listPlace, Given, AllSorted, bordering, Offered, OfferedEntry, Offering, Listed, Empty, ListedAll, Standing, Marked, candidateOf, Fair, Named, proposed, changed, traded, Tradable, Swapped, Holding, Facing, Taken, rankProposals, passFrom, Stepped, swapsAt, Swappable, RefinedBySwaps};
 use crate::level::HierarchyLevel;
 use crate::level::Limits;
 use crate::moves::clear;
@@ -115,8 +115,8 @@ fn offer_row(work: &mut [u32], s: SwapRoom, a: usize, v: usize)
     }
 }
 
-// v is listed as a candidate. The tallies are 0 before and after.
-fn list_vertex(work: &mut [u32], s: SwapRoom, v: usize)
+// v is listed as a candidate by its tallies, which are 0 before and after.
+fn list_counted(work: &mut [u32], s: SwapRoom, v: usize)
     requires { ⌜ Given (now work) s × (v < s .level .vertices) × Clear (now work) (s .tallies) (s .limits .ranks) × AllSorted (now work) s ⌝ }
     ensures { λ _. ⌜ Listed (now (work .entry)) (now (work .exit)) s v ⌝ }
 {
@@ -125,6 +125,33 @@ fn list_vertex(work: &mut [u32], s: SwapRoom, v: usize)
     offer_row(work, s, a, v);
     let tallies = s.tallies;
     work[tallies + a] = 0;
+}
+
+// Whether v has a neighbor of another rank.
+fn borders(w: &[u32], s: SwapRoom, v: usize) -> bool
+    requires { ⌜ Given (now w) s × (v < s .level .vertices) ⌝ }
+    ensures { λ r. ⌜ r ≡ bordering (rowsAt (now (w .entry)) (s .level)) (ownersAt (now (w .entry)) (s .level)) v ⌝ }
+{
+    let home = owner_in(w, s.level, v);
+    let end = row_start(w, s.level, v + 1);
+    let mut i = row_start(w, s.level, v);
+    while i < end {
+        if owner_at(w, s.level, i) != home {
+            return true;
+        }
+        i += 1;
+    }
+    false
+}
+
+// v is listed as a candidate, which only a vertex on a border can be.
+fn list_vertex(work: &mut [u32], s: SwapRoom, v: usize)
+    requires { ⌜ Given (now work) s × (v < s .level .vertices) × Clear (now work) (s .tallies) (s .limits .ranks) × AllSorted (now work) s ⌝ }
+    ensures { λ _. ⌜ Listed (now (work .entry)) (now (work .exit)) s v ⌝ }
+{
+    if borders(&work[..], s, v) {
+        list_counted(work, s, v);
+    }
 }
 
 // The candidates of all ordered rank pairs. The lists are empty before.
