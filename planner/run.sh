@@ -8,7 +8,7 @@ export LC_ALL=C
 made=target/planner/samples
 rm -rf "$made"
 samples/make.sh "$made"
-diff -r --exclude=README.md --exclude=make.sh --exclude=.gitattributes samples "$made"
+diff -r --exclude=README.md --exclude="*.sh" --exclude=expected.txt --exclude=.gitattributes samples "$made"
 
 rt staticlib multilevel
 cc -std=c99 -Wall -Wextra -Werror -O2 -o target/planner/planner planner/planner.c target/staticlib/libmultilevel.a

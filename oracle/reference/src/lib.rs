@@ -11,6 +11,7 @@ extern crate self as rayon;
 pub mod answers;
 pub mod forced;
 pub mod link_file;
+pub mod listing;
 pub mod random;
 pub mod sites;
 mod stand_ins;

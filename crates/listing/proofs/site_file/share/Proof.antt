@@ -1,0 +1,118 @@
+-- What the reader wrote is the file's lists, and what it was lent is enough for any file, so that a refusal is the file's own. Assumes nothing.
+use Prim.Native.Nat.{ℕ, _+_, _*_}
+use mathlib.Core.Path.{refl, sym, ap, _∙_}
+use native.Mathlib.Omega.{arith}
+use lib.Seq.{length-take-le}
+use borrow.Author.Needs.{needs}
+use Rattle.listing.specs.Share.{fileText, shareRoom}
+use Rattle.listing.proofs.TextLaws.{untold, told-as}
+use Rattle.listing.proofs.ShareLaws.{with-room, counts, site-read, file-refused, site-text}
+use Rattle.listing.proofs.site_file.share.Statement.{statement}
+use Rattle.listing.proofs.site_file.share.Tie as tie
+
+returns : tie.Need-returns
+returns c = (untold (fileText (c .before .before .before .args .file .now)) (c .before .before .before .args .text .now) shareRoom (omega arith), (omega arith, refl))
+
+slice-aggregate-read-link-file : tie.Need-slice-aggregate-read-link-file
+slice-aggregate-read-link-file c = search needs
+
+slice-aggregate-read-link-file-2 : tie.Need-slice-aggregate-read-link-file-2
+slice-aggregate-read-link-file-2 c = search needs
+
+read-link-file-requires : tie.Need-read-link-file-requires
+read-link-file-requires c κs = search needs
+
+enum-known-s : tie.Need-enum-known-s
+enum-known-s c = search needs
+
+index-requires : tie.Need-index-requires
+index-requires c κs = search needs
+
+add-n : tie.Need-add-n
+add-n c = search needs
+
+index-requires-2 : tie.Need-index-requires-2
+index-requires-2 c κs = search needs
+
+mul-m : tie.Need-mul-m
+mul-m c = search needs
+
+array-share-prefix-offsets : tie.Need-array-share-prefix-offsets
+array-share-prefix-offsets c =
+    let r = site-read (c .before .before .before .before .before .before .before .read-link-file .ensures) (c .before .before .before .s .given .0 .0) (c .before .before .before .s .given .1) in
+    omega (arith, r .offsets-fit, c .before .index .ensures)
+
+slice-aggregate-tell-division : tie.Need-slice-aggregate-tell-division
+slice-aggregate-tell-division c =
+    let r = site-read (c .before .before .before .before .before .before .before .before .read-link-file .ensures) (c .before .before .before .before .s .given .0 .0) (c .before .before .before .before .s .given .1) in
+    sym (length-take-le (c .before .before .index .result + 1) (c .before .before .before .before .before .before .before .before .read-link-file .last .1 .0) (omega (arith, r .offsets-fit, c .before .before .index .ensures)))
+
+array-share-prefix-neighbors : tie.Need-array-share-prefix-neighbors
+array-share-prefix-neighbors c =
+    let r = site-read (c .before .before .before .before .before .before .before .before .read-link-file .ensures) (c .before .before .before .before .s .given .0 .0) (c .before .before .before .before .s .given .1) in
+    omega (arith, r .neighbors-fit, c .before .index2 .ensures)
+
+slice-aggregate-tell-division-2 : tie.Need-slice-aggregate-tell-division-2
+slice-aggregate-tell-division-2 c =
+    let r = site-read (c .before .before .before .before .before .before .before .before .before .read-link-file .ensures) (c .before .before .before .before .before .s .given .0 .0) (c .before .before .before .before .before .s .given .1) in
+    sym (length-take-le (2 * c .before .before .index2 .result) (c .before .before .before .before .before .before .before .before .before .read-link-file .last .1 .1 .0) (omega (arith, r .neighbors-fit, c .before .before .index2 .ensures)))
+
+tell-division-requires : tie.Need-tell-division-requires
+tell-division-requires c κs =
+    let f = c .before .before .before .before .before .before .before .before .before .before .read-link-file in
+    let r = site-read (f .ensures) (c .before .before .before .before .before .before .s .given .0 .0) (c .before .before .before .before .before .before .s .given .1) in
+    let n = c .before .before .before .before .index in
+    let size = length-take-le (n .result + 1) (f .last .1 .0) (omega (arith, r .offsets-fit, n .ensures)) in
+    (size ∙ ap (λ (x : ℕ). x + 1) (n .ensures), r .few, omega arith)
+
+enum-known-number : tie.Need-enum-known-number
+enum-known-number c = search needs
+
+write-refusal-requires : tie.Need-write-refusal-requires
+write-refusal-requires c κs = search needs
+
+same-length : tie.Need-same-length
+same-length c = search needs
+
+returns-2 : tie.Need-returns-2
+returns-2 c =
+    let r = site-read (c .before .before .before .before .before .before .before .before .before .before .before .before .before .read-link-file .ensures) (c .before .before .before .before .before .before .before .before .before .s .given .0 .0) (c .before .before .before .before .before .before .before .before .before .s .given .1) in
+    let n = c .before .before .before .before .before .before .before .index in
+    let e = c .before .before .before .before .before .before .index2 in
+    let t = c .before .before .tell-division .ensures in
+    (told-as t (site-text (n .result) (e .result) r (n .ensures) (e .ensures)), counts t)
+
+same-length-2 : tie.Need-same-length-2
+same-length-2 c = search needs
+
+returns-3 : tie.Need-returns-3
+returns-3 c =
+    let f = c .before .before .before .before .before .before .before .before .before .read-link-file .ensures in
+    let t = c .before .before .write-refusal .ensures in
+    let same = file-refused f (c .before .before .before .before .before .number .given .0 .0) (c .before .before .before .before .before .number .given .1) refl refl in
+    (told-as (with-room t shareRoom (omega arith) (omega arith)) same, counts t)
+
+pub share-spec : {M : Type 1} → statement M
+share-spec =
+    tie.close
+    (tie.spec
+    returns
+    slice-aggregate-read-link-file
+    slice-aggregate-read-link-file-2
+    read-link-file-requires
+    enum-known-s
+    index-requires
+    add-n
+    index-requires-2
+    mul-m
+    array-share-prefix-offsets
+    slice-aggregate-tell-division
+    array-share-prefix-neighbors
+    slice-aggregate-tell-division-2
+    tell-division-requires
+    enum-known-number
+    write-refusal-requires
+    same-length
+    returns-2
+    same-length-2
+    returns-3)

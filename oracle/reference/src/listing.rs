@@ -1,0 +1,26 @@
+//! What document 01's program `share` prints, by its own example: the listing of the Rust's division, or `refused ` and the number.
+use crate::answers::{Options, partition};
+use crate::link_file::{Contents, check};
+
+/// The text for a file's bytes.
+pub fn listing(file: &[u8]) -> String {
+    match answer(file) {
+        Ok(text) => text,
+        Err(number) => format!("refused {number}\n"),
+    }
+}
+
+fn answer(file: &[u8]) -> Result<String, u32> {
+    let Contents { header, site } = check(file)?;
+    let [n, _, k, options @ ..] = header;
+    let [max_levels, coarse_vertices_per_rank, imbalance_per_mille, refinement_passes] = options.map(u64::from);
+    let options = Options { max_levels, coarse_vertices_per_rank, imbalance_per_mille, refinement_passes };
+    let (owners, stats) = partition(&site.offsets, &site.neighbors, k, options)?;
+    let mut text = format!("turbines {n} crews {k}\n");
+    for (v, owner) in owners.iter().enumerate() {
+        text += &format!("{v} {owner}\n");
+    }
+    let words = ["levels", "coarsest", "pairs", "singles", "restarts", "moves", "cut", "volume"];
+    let stats: Vec<_> = words.iter().zip(stats).map(|(word, number)| format!("{word} {number}")).collect();
+    Ok(text + &stats.join(" ") + "\n")
+}
