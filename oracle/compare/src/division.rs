@@ -32,7 +32,15 @@ impl Guarded {
 }
 
 /// One call of both, with `owners_more` and `work_more` numbers lent beyond what is needed (or fewer): the moves and swaps made.
-fn compare_one(check: &mut Check, random: &mut Random, site: &Site, ranks: u32, options: Options, owners_more: i64, work_more: i64) -> u64 {
+fn compare_one(
+    check: &mut Check,
+    random: &mut Random,
+    site: &Site,
+    ranks: u32,
+    options: Options,
+    owners_more: i64,
+    work_more: i64,
+) -> u64 {
     let (n, m) = (vertex_count(&site.offsets), site.neighbors.len());
     // what is out of the limits is lent little: it is refused before
     let within = n <= 16_384 && m <= 131_072 && ranks <= 256 && options.max_levels <= 32;
@@ -73,7 +81,12 @@ fn small(check: &mut Check, random: &mut Random, most: usize) {
                     for coarse_vertices_per_rank in [1, 2, 64] {
                         for imbalance_per_mille in [0, 30, 200, 334, 500] {
                             for refinement_passes in [1, 2, u64::MAX] {
-                                let options = Options { max_levels, coarse_vertices_per_rank, imbalance_per_mille, refinement_passes };
+                                let options = Options {
+                                    max_levels,
+                                    coarse_vertices_per_rank,
+                                    imbalance_per_mille,
+                                    refinement_passes,
+                                };
                                 compare_one(check, random, &site, ranks, options, 1, 3);
                             }
                         }
@@ -132,7 +145,8 @@ fn forced_runs(check: &mut Check, random: &mut Random, large: bool) {
         for passes in [1, 2, 10, u64::MAX] {
             // one more vertex than the average is within the cap for 1 per mille of more than 1000 vertices
             let spare = if ranks * size > 1000 { 1 } else { 1000_u64.div_ceil((ranks * size - 1) as u64) };
-            let moves = compare_one(check, random, &forced::moves(ranks, size), ranks as u32, options(spare, passes), 1, 1);
+            let moves =
+                compare_one(check, random, &forced::moves(ranks, size), ranks as u32, options(spare, passes), 1, 1);
             let swaps = compare_one(check, random, &forced::swaps(ranks, size), ranks as u32, options(0, passes), 1, 1);
             check.made(moves + swaps);
         }
@@ -145,14 +159,20 @@ fn emptied(check: &mut Check, random: &mut Random, count: u64) {
         let ranks = 2 + random.index(9);
         let site = sites::any(random, 2 * ranks - 1);
         let ranks = ranks.min(site.vertices()) as u32;
-        let options = Options { coarse_vertices_per_rank: 64, imbalance_per_mille: random.between(450, 500), ..some_options(random) };
+        let options = Options {
+            coarse_vertices_per_rank: 64,
+            imbalance_per_mille: random.between(450, 500),
+            ..some_options(random)
+        };
         compare_one(check, random, &site, ranks, options, 1, 1);
     }
 }
 
 pub fn compare(report: &mut Report, seed: u64, count: u64, long: bool) {
     report.check("divisions of 01's sites by hand", &[0, 6, 7, 8, 9], |check| {
-        for (site, ranks, [max_levels, coarse_vertices_per_rank, imbalance_per_mille, refinement_passes], _) in byhand::table() {
+        for (site, ranks, [max_levels, coarse_vertices_per_rank, imbalance_per_mille, refinement_passes], _) in
+            byhand::table()
+        {
             let options = Options { max_levels, coarse_vertices_per_rank, imbalance_per_mille, refinement_passes };
             compare_one(check, &mut Random::new(seed), &site, ranks, options, 0, 0);
         }
@@ -161,12 +181,22 @@ pub fn compare(report: &mut Report, seed: u64, count: u64, long: bool) {
     report.check(&format!("divisions of all graphs of up to {name} vertices"), &[0, 6, 7, 8, 9], |check| {
         small(check, &mut Random::new(seed), most);
     });
-    report.check("divisions with forced runs of moves and swaps", &[0], |check| forced_runs(check, &mut Random::new(seed), long));
-    report.check("divisions that may leave a rank empty", &[0, 8, 9], |check| emptied(check, &mut Random::new(seed), count / 4));
+    report.check("divisions with forced runs of moves and swaps", &[0], |check| {
+        forced_runs(check, &mut Random::new(seed), long)
+    });
+    report.check("divisions that may leave a rank empty", &[0, 8, 9], |check| {
+        emptied(check, &mut Random::new(seed), count / 4)
+    });
     report.check("divisions of random sites", &[0, 6, 7, 8], |check| {
         let mut random = Random::new(seed);
         for i in 0..count {
-            let size = if i % 200 == 0 { 1500 } else if i % 20 == 0 { 300 } else { 40 };
+            let size = if i % 200 == 0 {
+                1500
+            } else if i % 20 == 0 {
+                300
+            } else {
+                40
+            };
             let site = sites::any(&mut random, size);
             let ranks = 1 + random.index(site.vertices().min(if i % 20 == 0 { 64 } else { 7 })) as u32;
             let options = some_options(&mut random);
@@ -176,11 +206,27 @@ pub fn compare(report: &mut Report, seed: u64, count: u64, long: bool) {
     report.check("divisions of bad input", &[0, 1, 2, 3, 4, 5], |check| bad(check, &mut Random::new(seed), count));
     report.check("divisions at the limits", &[0, 2, 3], |check| {
         let mut random = Random::new(seed);
-        let options = |max_levels| Options { max_levels, coarse_vertices_per_rank: 64, imbalance_per_mille: 30, refinement_passes: 2 };
-        for (site, ranks) in [(sites::grid(128, 128), 8), (sites::path(16_384), 256), (sites::star(16_384), 2), (sites::path(16_385), 2), (sites::clique(363), 3)] {
+        let options = |max_levels| Options {
+            max_levels,
+            coarse_vertices_per_rank: 64,
+            imbalance_per_mille: 30,
+            refinement_passes: 2,
+        };
+        for (site, ranks) in [
+            (sites::grid(128, 128), 8),
+            (sites::path(16_384), 256),
+            (sites::star(16_384), 2),
+            (sites::path(16_385), 2),
+            (sites::clique(363), 3),
+        ] {
             compare_one(check, &mut random, &site, ranks, options(12), 1, 1);
         }
-        let many = Options { max_levels: 32, coarse_vertices_per_rank: 1, imbalance_per_mille: 500, refinement_passes: u64::MAX };
+        let many = Options {
+            max_levels: 32,
+            coarse_vertices_per_rank: 1,
+            imbalance_per_mille: 500,
+            refinement_passes: u64::MAX,
+        };
         let full = sites::sparse(&mut random, 16_384, 65_536);
         for (site, ranks) in [(sites::bipartite(256, 256), 256), (full, 256), (sites::grid(20, 20), 16)] {
             compare_one(check, &mut random, &site, ranks, many, 0, 0);

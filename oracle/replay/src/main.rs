@@ -16,7 +16,8 @@ fn main() {
 }
 
 fn samples(folder: &Path) -> String {
-    let mut names: Vec<_> = std::fs::read_dir(folder).expect("a folder").map(|entry| entry.expect("an entry").path()).collect();
+    let mut names: Vec<_> =
+        std::fs::read_dir(folder).expect("a folder").map(|entry| entry.expect("an entry").path()).collect();
     names.retain(|name| name.extension().is_some_and(|e| e == "links"));
     names.sort();
     names

@@ -24,7 +24,8 @@ struct Row {
 fn measure(row: &Row, times: u32) -> (Duration, Duration) {
     let Row { site, ranks, options, .. } = row;
     let (n, m) = (site.vertices(), site.neighbors.len());
-    let matrix = Csr32Matrix::new(n, n, site.offsets.clone(), site.neighbors.clone(), vec![1.0; m]).expect("sound lists");
+    let matrix =
+        Csr32Matrix::new(n, n, site.offsets.clone(), site.neighbors.clone(), vec![1.0; m]).expect("sound lists");
     let (owners_need, work_need) = lent_needs(n, m, *ranks, options.max_levels);
     let (mut owners, mut work) = (vec![1u32; owners_need], vec![1u32; work_need]);
     let (mut ours, mut rust) = (Duration::MAX, Duration::MAX);
@@ -37,7 +38,12 @@ fn measure(row: &Row, times: u32) -> (Duration, Duration) {
         rust = rust.min(start.elapsed());
         match answer {
             Ok((assignment, s)) => {
-                assert_eq!((number, stats[5], stats[6]), (0, s.refinement_moves as u64, s.final_cut_nnz as u64), "{}", row.name);
+                assert_eq!(
+                    (number, stats[5], stats[6]),
+                    (0, s.refinement_moves as u64, s.final_cut_nnz as u64),
+                    "{}",
+                    row.name
+                );
                 assert_eq!(owners, assignment.owners(), "{}", row.name);
             }
             Err(_) => assert_ne!(number, 0, "{}", row.name),
@@ -52,7 +58,8 @@ fn measure(row: &Row, times: u32) -> (Duration, Duration) {
 fn rows() -> Vec<Row> {
     let n = 16_384;
     let mut random = Random::new(1);
-    let default = Options { max_levels: 12, coarse_vertices_per_rank: 64, imbalance_per_mille: 30, refinement_passes: 2 };
+    let default =
+        Options { max_levels: 12, coarse_vertices_per_rank: 64, imbalance_per_mille: 30, refinement_passes: 2 };
     let shapes = [
         ("grid", sites::grid(128, 128)),
         ("geometric", sites::geometric(&mut random, n, 12_700)),
@@ -68,8 +75,12 @@ fn rows() -> Vec<Row> {
         }
     }
     rows.push(Row { name: "forty turbines".into(), site: sites::grid(5, 8), ranks: 4, options: default });
-    let forced_options =
-        |imbalance_per_mille| Options { coarse_vertices_per_rank: u64::MAX, imbalance_per_mille, refinement_passes: u64::MAX, ..default };
+    let forced_options = |imbalance_per_mille| Options {
+        coarse_vertices_per_rank: u64::MAX,
+        imbalance_per_mille,
+        refinement_passes: u64::MAX,
+        ..default
+    };
     rows.push(Row { name: "forced moves".into(), site: forced::moves(64, 256), ranks: 64, options: forced_options(1) });
     rows.push(Row { name: "forced swaps".into(), site: forced::swaps(64, 256), ranks: 64, options: forced_options(0) });
     rows
@@ -98,10 +109,19 @@ fn main() {
         let (n, m) = (row.site.vertices(), row.site.neighbors.len());
         let ms = |d: Duration| d.as_secs_f64() * 1e3;
         let (_, work) = lent_needs(n, m, row.ranks, row.options.max_levels);
-        println!("| {} | {n} | {m} | {} | {:.3} | {:.3} | {ratio:.1} | {work} |", row.name, row.ranks, ms(rust), ms(ours));
+        println!(
+            "| {} | {n} | {m} | {} | {:.3} | {:.3} | {ratio:.1} | {work} |",
+            row.name,
+            row.ranks,
+            ms(rust),
+            ms(ours)
+        );
         logs += ratio.ln();
         count += 1;
         least = least.min(ratio);
     }
-    println!("\n{count} rows: {:.1} times as fast in the geometric mean, {least:.1} at least", (logs / f64::from(count)).exp());
+    println!(
+        "\n{count} rows: {:.1} times as fast in the geometric mean, {least:.1} at least",
+        (logs / f64::from(count)).exp()
+    );
 }
