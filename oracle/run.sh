@@ -1,5 +1,5 @@
 #!/usr/bin/env bash
-# Compares Hipstern with the unchanged Rust (oracle/reference), through the archive of crate bridge.
+# Compares Hipstern with the unchanged Rust (oracle/reference), through the archives of crates bridge and bridge_stages.
 # The Rust's sources are looked for in HIPSTERN_RUST_SRC (from the repository's root, if it is relative), by default
 # ../shared/docs/src. Words are passed on: --seed NUMBER --count NUMBER, for longer runs. The exit status is not 0 where an
 # answer differs.
@@ -17,6 +17,7 @@ export HIPSTERN_RUST_SRC
 unset HYBIT_A6_F12_MERGE HYBIT_A6_F10_PHASE HYBIT_A6_PHASE_PROFILE
 
 rt staticlib bridge
+rt staticlib bridge_stages
 CARGO_TARGET_DIR=$PWD/target/oracle
 export CARGO_TARGET_DIR
 cargo build --quiet --release --offline --locked --manifest-path oracle/Cargo.toml

@@ -36,7 +36,7 @@ use Rattle.multilevel.proofs.PlaceLaws.{placed-ready, placed-rows, plac
 
 module _ (w : List ℕ) (l : HierarchyLevel) (q : Rules) (p : Placed w l q 0) where
   pub growable : Growable w l (q .scratch) (q .limits .ranks)
-  growable = record { level = placed-ready w l q 0 p; room = omega (arith, p .room) }
+  growable = record { level = placed-ready w l q 0 p; few-ranks = p .few-ranks; room = omega (arith, p .room) }
 
   -- the stage's cause is the division's
   cause-is : growthCause w l (q .limits .ranks) (q .limits .cap) ≡ grow (balanceIn (q .limits)) (q .passes) (rowsAt w l) (weightsAt w l) .refusal

@@ -9,10 +9,11 @@ use lib.Dec.{eqb}
 use lib.ListN.{length, drop}
 use lib.Seq.{drop-cons}
 use borrow.Author.Tests.{eqb-true, eqb-false}
-use Rattle.links.specs.Lists.{at, filter, any, foldl, range}
+use Rattle.links.specs.Lists.{at, unassigned, filter, any, foldl, range}
 use Rattle.links.proofs.ListLaws.{split, count-append, any-counts}
+use Rattle.links.proofs.ListLaws.{none-counts as none-left}
 use Rattle.stages.specs.Growth.{Growing, Turn, Round, Choice, passes, claims, restarts, isPass, isRestart, afterTurn, turn, round, rounds, restartCount}
-use Rattle.stages.specs.FrontierCode.{rowsIn, weightsIn, memoryIn, Outside, Stands, GrowthReady, kindOf}
+use Rattle.stages.specs.FrontierCode.{rowsIn, weightsIn, memoryIn, vacantIn, Outside, Stands, GrowthReady, kindOf}
 use Rattle.stages.specs.GrowthCode.{StandsIn, TurnMade, claimCount, vacancy, turnsOf, Rounded, nextRound, More, roundsOf, Leaves, grownAnswer, leftCause, GrownTo}
 use Rattle.stages.specs.declared.growth.GrowthRoom.{GrowthRoom}
 use Rattle.stages.specs.declared.growth.Grown.{Grown}
@@ -98,6 +99,7 @@ round-start {l} {w} cap d = record {
   claims-are = λ s t. refl;
   restarts-are = λ s t. refl;
   stands = λ s t. t;
+  vacant = omega arith;
   few = (omega arith, omega arith);
 }
 
@@ -140,6 +142,7 @@ module _ {l : GrowthRoom} {cap : ℕ} {w w′ w₂ : List ℕ} {i c e x : ℕ} (
         ap₂ (λ (a z : ℕ). a + z) (b .restarts-are s st) k
         ∙ sym (ap restartCount (round-next cap (rowsIn l w) (weightsIn l w) s i .0) ∙ restarts-append (turnsOf cap l w i s .turns) (turn-now s ∷ []));
     stands = λ s st. subst (StandsIn cap l w w₂) (sym (round-next cap (rowsIn l w) (weightsIn l w) s i .1)) (stands-now (Was s) (b .stands s st));
+    vacant = omega (arith, b .vacant, t .vacant, ec);
     few = (omega (arith, b .few .0, ec, one-or (eqb x 0)), omega (arith, b .few .1, ee, or-one (eqb x 2)));
   }
 
@@ -150,6 +153,19 @@ any-yes p xs i h e = ap (any p) (drop-cons xs i 0 h) ∙ rw e
 
 pub any-no : (p : ℕ → Bool) (xs : List ℕ) (i : ℕ) → i < length xs → p (at xs i) ≡ false → any p (drop i xs) ≡ any p (drop (i + 1) xs)
 any-no p xs i h e = ap (any p) (drop-cons xs i 0 h) ∙ rw (e, add-one i)
+
+-- ---- is a group left that nobody owns?
+
+module _ (owners : List ℕ) (left : ℕ) (e : left ≡ vacantIn owners) where
+  pub some-left : (left ≡ 0 → ⊥) → vacancy owners ≡ true
+  some-left z = split (vacancy owners)
+      (λ p. p)
+      (λ p. absurd (z (eqb-true left 0 (ap (λ (x : ℕ). eqb x 0) e ∙ none-left (eqb unassigned) owners ∙ ap not p))))
+
+  pub none-vacant : left ≡ 0 → vacancy owners ≡ false
+  none-vacant z = split (vacancy owners)
+      (λ p. absurd (omega (arith, e, z, any-counts (eqb unassigned) owners p)))
+      (λ p. p)
 
 -- ---- a round, if a group is unowned
 
@@ -177,6 +193,7 @@ module _ {l : GrowthRoom} {cap : ℕ} {w : List ℕ} where
     claims-are = λ s st. b .claims-are s st ∙ sym (ap (λ (x : Round). claimCount (x .turns)) (yes l cap w v s st));
     restarts-are = λ s st. b .restarts-are s st ∙ sym (ap (λ (x : Round). restartCount (x .turns)) (yes l cap w v s st));
     stands = λ s st. subst (λ (x : Round). StandsIn cap l w w′ (x .state)) (sym (yes l cap w v s st)) (b .stands s st);
+    vacant = b .vacant;
     few = b .few .1;
   }
 
@@ -188,6 +205,7 @@ module _ {l : GrowthRoom} {cap : ℕ} {w : List ℕ} where
     claims-are = λ s st. sym (ap (λ (x : Round). claimCount (x .turns)) (no l cap w v s st));
     restarts-are = λ s st. sym (ap (λ (x : Round). restartCount (x .turns)) (no l cap w v s st));
     stands = λ s st. subst (λ (x : Round). StandsIn cap l w w (x .state)) (sym (no l cap w v s st)) st;
+    vacant = omega arith;
     few = omega arith;
   }
 

@@ -1,30 +1,34 @@
 -- A rank's turn in the work slice. Assumes nothing.
 use mathlib.Core.Path.{_≡_, refl, sym, ap, ap₂, _∙_, subst}
 use mathlib.Core.Logic.{_⊎_, inl, inr, ⊎-elim}
-use mathlib.Core.Bool.{Bool, true}
+use mathlib.Core.Bool.{Bool, true, false, true≢false}
 use mathlib.Core.List.{List, [], _∷_, _++_}
 use mathlib.Core.Option.{Option, none, some}
-use Prim.Native.Nat.{ℕ, suc, _+_, _-_, _<_, _^_}
+use Prim.Native.Nat.{ℕ, zero, suc, _+_, _-_, _≤_, _<_, _^_}
 use native.Mathlib.Omega.{arith}
-use lib.Dec.{eqb}
-use lib.ListN.{length, set}
-use borrow.Author.Tests.{eqb-true, eqb-false, eq-eqb, ne-eqb}
-use Rattle.links.specs.Lists.{at, unassigned, filter, best, range, sum}
+use lib.Dec.{eqb, ltb}
+use lib.ListN.{length, set, length-set, replicate, length-replicate}
+use lib.Seq.{getD-set-same, getD-set-other}
+use borrow.Author.Tests.{eqb-true, eqb-false, eq-eqb, ne-eqb, ltb-true, ltb-false}
+use Rattle.links.specs.Lists.{at, unassigned, filter, best, range, sum, All}
 use Rattle.links.specs.Best.{held}
 use Rattle.links.specs.Graph.{row, degree, load, rowsOf, vertexCount, SoundLists}
-use Rattle.links.proofs.ListLaws.{split, best-kept}
-use Rattle.links.proofs.PartLaws.{length-part}
-use Rattle.links.proofs.RowLaws.{length-rows}
+use Rattle.links.proofs.ListLaws.{split, best-kept, all-to}
+use Rattle.links.proofs.PartLaws.{length-part, getD-part}
+use Rattle.links.proofs.RowLaws.{length-rows, all-place}
 use Rattle.stages.specs.Level.{offsetsAt, neighborsAt, ownersAt}
+use Rattle.stages.specs.Coarsen.{byDegree}
 use Rattle.stages.specs.Growth.{restart}
-use Rattle.stages.specs.FrontierCode.{opens, front, higher, Chain, Sought, candidateAt, Lent, Memory, memory, rowsIn, weightsIn, linksIn, memoryIn, GrowthLaid, Outside, frontOf, Good, Stands, parked, owning, begun, appended, GrowthReady, Stored}
-use Rattle.stages.specs.GrowthCode.{openIn, SoughtIn, restartIn, Advanced, Claimed, TurnMade}
+use Rattle.stages.specs.FrontierCode.{opens, front, higher, Chain, Sought, FirstOpen, candidateAt, Lent, Memory, memory, rowsIn, weightsIn, orderIn, linksIn, memoryIn, vacantIn, GrowthLaid, Outside, frontOf, Good, Stands, parked, owning, begun, appended, GrowthReady, Stored}
+use Rattle.stages.specs.GrowthCode.{openIn, openNow, SoughtIn, restartIn, Behind, Advanced, Claimed, TurnMade}
 use Rattle.stages.specs.declared.growth.GrowthRoom.{GrowthRoom}
-use Rattle.stages.proofs.GrowthLaws.{unowned-in}
+use Rattle.stages.proofs.GroupingLaws.{byDegree-below}
+use Rattle.stages.proofs.GrowthLaws.{unowned-in, vacant-set}
 use Rattle.stages.proofs.LoadSetLaws.{load-joins}
-use Rattle.stages.proofs.FrontierLaws.{open-facts}
+use Rattle.stages.proofs.FrontierLaws.{first, open-facts, opens-before}
+use Rattle.stages.proofs.OrderLaws.{order-first, first-found, first-none}
 use Rattle.stages.proofs.ChainLaws.{at-end, at-open, head-in}
-use Rattle.stages.proofs.GrowthMemoryLaws.{below-same, outside-trans, laid-after, read-load, read-head, read-place, read-count}
+use Rattle.stages.proofs.GrowthMemoryLaws.{below-same, between-same, outside-trans, laid-after, read-load, read-head, read-place, read-count}
 use Rattle.stages.proofs.GrowthStateLaws.{Step, good-step, front-there, park-step, park-front, begin-step, begin-front, append-step, append-front, tail-facts}
 use Rattle.stages.proofs.GrowthTurnLaws.{openTo, restart-is, stands-parked, pass-made, claim-made, restart-made}
 
@@ -72,13 +76,12 @@ module _ {l : GrowthRoom} {w : List ℕ} (d : GrowthReady l w) (r : ℕ) (q : r 
   seek-post cap h p n s =
       rw (n-is l w (d .laid), read-load w (d .laid) r q, read-head w (d .laid) r q, read-place w (d .laid) r q, read-count w (d .laid) r q) at s
 
-  pub restart-post
-      : (cap g : ℕ)
-      → held g ≡ best (higher lists-rows)
-      (filter (opens cap (weightsIn l w) (ownersAt w (l .level)) (at w (l .loads + r))) (range 0 (vertexCount (offsetsAt w (l .level)))))
-      → held g ≡ restartIn cap l w r
-  unfolding memoryIn memory rowsIn
-  restart-post cap g e = rw (n-is l w (d .laid), read-load w (d .laid) r q) at e
+  pub open-post
+      : (cap from p : ℕ)
+      → FirstOpen (opens cap (weightsIn l w) (ownersAt w (l .level)) (at w (l .loads + r))) (orderIn l w) from p
+      → FirstOpen (openNow cap l w r) (orderIn l w) from p
+  unfolding memoryIn memory
+  open-post cap from p f = rw (read-load w (d .laid) r q) at f
 
 -- the candidate at a place, on the parts that are lent for it
 module _ {l : GrowthRoom} {w : List ℕ} (d : GrowthReady l w) (h p n : ℕ) where
@@ -112,6 +115,9 @@ module _ {l : GrowthRoom} {w w′ : List ℕ} (h : GrowthLaid l (length w)) (o :
   pub weights-same : weightsIn l w′ ≡ weightsIn l w
   weights-same = below-same o (l .level .weights) (l .level .weights + l .level .vertices) (omega arith)
 
+  pub order-same : orderIn l w′ ≡ orderIn l w
+  order-same = between-same o (l .order) (l .order + l .level .vertices) (omega arith) (omega arith)
+
   pub lists-same : SoundLists (offsetsAt w (l .level)) (neighborsAt w (l .level)) → SoundLists (offsetsAt w′ (l .level)) (neighborsAt w′ (l .level))
   lists-same s =
       subst (λ (a : List ℕ). SoundLists a (neighborsAt w′ (l .level))) (sym offsets-same)
@@ -132,6 +138,7 @@ ready-after {l} d o g = record {
   laid = laid-after o (d .laid);
   lists = lists-same (d .laid) o (d .lists);
   light = subst (λ (x : List ℕ). sum x < 2 ^ 31) (sym (weights-same {l = l} (d .laid) o)) (d .light);
+  ordered = order-same (d .laid) o ∙ d .ordered ∙ ap byDegree (sym (rows-same {l = l} (d .laid) o));
   good = good-same (d .laid) o g;
 }
 
@@ -207,6 +214,7 @@ module _ {l : GrowthRoom} {w : List ℕ} (cap r : ℕ) {h p n : ℕ} (d : Growth
     stands = λ z st.
         subst (λ (m : Memory). Stands cap (rowsIn l w) (weightsIn l w) (l .ranks) m z) (sym (s .after))
         (stands-parked r q st (parked (memoryIn l w) r h p n) owners-now same-now (front-there (d .good) step-here));
+    owners-are = ap (λ (m : Memory). m .owners) (s .after) ∙ owners-now;
     found = subst (Found g) (sym (s .after)) (found-now g e);
   }
 
@@ -294,6 +302,106 @@ module _ {l : GrowthRoom} {w : List ℕ} (cap r g : ℕ) (d : GrowthReady l w) (
           made (appended owned r g) (then (λ m. appended m r g) t) (append-step (d .good) q few-ranks free in-rows c some-count) owners-appended
           (append-front (d .good) q few-ranks free in-rows c some-count)
 
+-- ---- the search for a restart
+
+module _ {l : GrowthRoom} {w : List ℕ} (cap r : ℕ) (d : GrowthReady l w) (q : r < l .ranks) where
+  order-size : length (orderIn l w) ≡ l .level .vertices
+  order-size = let h = d .laid in length-part w (l .order) (l .order + l .level .vertices) (omega arith) (omega arith) ∙ omega arith
+
+  pub order-inside : length (orderIn l w) ≡ l .level .vertices
+  order-inside = order-size
+
+  -- the order has groups
+  pub order-groups : All (λ g. (g < length (weightsIn l w)) × (g < length (ownersAt w (l .level)))) (orderIn l w)
+  order-groups =
+      subst (All (λ g. (g < length (weightsIn l w)) × (g < length (ownersAt w (l .level))))) (sym (d .ordered))
+      (all-to (λ g. g < length (rowsIn l w)) (λ g. (g < length (weightsIn l w)) × (g < length (ownersAt w (l .level))))
+      (λ g h. (omega (arith, rows-all l w (d .laid), weights-length l w (d .laid)), omega (arith, rows-all l w (d .laid), owners-length l w (d .laid))))
+      (byDegree (rowsIn l w)) (byDegree-below (rowsIn l w)))
+
+  now-is : openNow cap l w r ≡ openIn cap l w w r
+  now-is = ap (opens cap (weightsIn l w) (memoryIn l w .owners)) (d .good .loads-are r q)
+
+  module _ {cs : List ℕ} (b : Behind cap l w cs) {p : ℕ} (f : FirstOpen (openNow cap l w r) (orderIn l w) (at cs r) p) where
+    closed-before : (i : ℕ) → i < p → openNow cap l w r (at (orderIn l w) i) ≡ false
+    closed-before i h = split (ltb i (at cs r))
+        (λ y. ap (λ (ok : ℕ → Bool). ok (at (orderIn l w) i)) now-is ∙ b .closed r i q (ltb-true i (at cs r) y))
+        (λ y. f .closed i (ltb-false i (at cs r) y) h)
+
+    -- the cursor goes along
+    pub cursor-behind : Behind cap l w (set cs r p)
+    cursor-behind =
+        let here : at (set cs r p) r ≡ p = getD-set-same cs r p 0 (omega (arith, b .all, d .laid .few-ranks)) in
+        record {
+          all = length-set cs r p ∙ b .all;
+          inside = λ e h. split (eqb e r)
+              (λ y. subst (λ (x : ℕ). at (set cs r p) x ≤ l .level .vertices) (sym (eqb-true e r y)) (omega (arith, here, f .inside, order-size)))
+              (λ y. omega (arith, getD-set-other cs r e p 0 (eqb-false e r y), b .inside e h));
+          closed = λ e i h. split (eqb e r)
+              (λ y. subst (λ (x : ℕ). i < at (set cs r p) x → openIn cap l w w x (at (orderIn l w) i) ≡ false) (sym (eqb-true e r y))
+              (λ z. ap (λ (ok : ℕ → Bool). ok (at (orderIn l w) i)) (sym now-is) ∙ closed-before i (omega (arith, here))))
+              (λ y z. b .closed e i h (omega (arith, getD-set-other cs r e p 0 (eqb-false e r y))));
+        }
+
+    first-is-best : restartIn cap l w r ≡ first (filter (openNow cap l w r) (orderIn l w))
+    first-is-best =
+        ap (λ (n : ℕ). best (higher (rowsIn l w)) (filter (openNow cap l w r) (range 0 n))) (sym (rows-all l w (d .laid)))
+        ∙ order-first (rowsIn l w) (openNow cap l w r)
+        ∙ ap (λ (xs : List ℕ). first (filter (openNow cap l w r) xs)) (sym (d .ordered))
+
+    -- the group at the place where the search stopped
+    pub restart-there : p < l .level .vertices → held (at w (l .order + p)) ≡ restartIn cap l w r
+    restart-there h =
+        let k : p < length (orderIn l w) = omega (arith, order-size) in
+        let e : at (orderIn l w) p ≡ at w (l .order + p) = getD-part w (l .order) (l .order + l .level .vertices) p (omega arith) in
+        let g = all-place (λ g. (g < length (weightsIn l w)) × (g < length (ownersAt w (l .level)))) (orderIn l w) p order-groups k in
+        let ne : eqb (at w (l .order + p)) unassigned ≡ false = ne-eqb (at w (l .order + p)) unassigned (λ z. omega (arith, e, g .0, weights-length l w (d .laid), d .laid .few)) in
+        rw ne (sym (first-is-best ∙ first-found (openNow cap l w r) (orderIn l w) p closed-before k (f .found k) ∙ ap some e))
+
+    pub restart-nowhere : l .level .vertices ≤ p → held unassigned ≡ restartIn cap l w r
+    restart-nowhere h =
+        sym (first-is-best ∙ first-none (openNow cap l w r) (orderIn l w) (λ i k. closed-before i (omega (arith, order-size))))
+
+zeros : (n d : ℕ) → at (replicate n 0) d ≡ 0
+zeros zero d = refl
+zeros (suc n) zero = refl
+zeros (suc n) (suc d) = zeros n d
+
+-- every cursor at the start of the order
+pub behind-start : (cap : ℕ) (l : GrowthRoom) (w : List ℕ) → Behind cap l w (replicate 256 0)
+behind-start cap l w = record {
+  all = length-replicate {A = ℕ} 256 0;
+  inside = λ d h. omega (arith, zeros 256 d);
+  closed = λ d i h k. absurd (omega (arith, zeros 256 d));
+}
+
+-- what is closed stays closed
+behind-less
+    : {l : GrowthRoom} {w w′ cs : List ℕ} {cap : ℕ}
+    → orderIn l w′ ≡ orderIn l w
+    → ((e x : ℕ) → e < l .ranks → openIn cap l w′ w′ e x ≡ true → openIn cap l w w e x ≡ true)
+    → Behind cap l w cs
+    → Behind cap l w′ cs
+behind-less {l} {w} {w′} {cs} {cap} o f b = record {
+  all = b .all;
+  inside = b .inside;
+  closed = λ e i h k. split (openIn cap l w′ w′ e (at (orderIn l w′) i))
+      (λ y. absurd (true≢false (sym (f e (at (orderIn l w′) i) h y) ∙ ap (λ (xs : List ℕ). openIn cap l w w e (at xs i)) o ∙ b .closed e i h k)))
+      (λ y. y);
+}
+
+module _ {l : GrowthRoom} {w w′ cs : List ℕ} {cap r g : ℕ} (d : GrowthReady l w) where
+  pub behind-advanced : Advanced l cap w w′ r g → Behind cap l w cs → Behind cap l w′ cs
+  behind-advanced a = behind-less (order-same (d .laid) (a .outside)) (λ e x h y.
+      ap₂ (λ (W o : List ℕ). openTo cap W o e x) (sym (weights-same {l = l} (d .laid) (a .outside))) (sym (a .owners-are)) ∙ y)
+
+  pub behind-claimed : r < l .ranks → Claimed l w w′ r g → openIn cap l w w r g ≡ true → Behind cap l w cs → Behind cap l w′ cs
+  behind-claimed q c op =
+      let u = open-facts cap (weightsIn l w) (memoryIn l w .owners) (load (weightsIn l w) (memoryIn l w .owners) r) g op .0 in
+      behind-less (order-same (d .laid) (c .outside)) (λ e x h y.
+      opens-before cap (weightsIn l w) (memoryIn l w .owners) g r e u (λ z. omega (arith, d .laid .few-ranks)) (λ z. omega (arith, d .laid .few-ranks)) x
+      (ap₂ (λ (W o : List ℕ). openTo cap W o e x) (sym (weights-same {l = l} (d .laid) (c .outside))) (sym (c .owners-are)) ∙ y))
+
 -- ---- a turn
 
 module _ {l : GrowthRoom} {w : List ℕ} (cap r : ℕ) (d : GrowthReady l w) (q : r < l .ranks) (f : ℕ)
@@ -360,6 +468,10 @@ module _ {l : GrowthRoom} {w w₁ : List ℕ} {cap r g : ℕ} (d : GrowthReady l
     tr : (e : ℕ) → e < l .ranks → (e ≡ r → ⊥) → frontOf (rowsIn l w) (memoryIn l w₂) e ≡ frontOf (rowsIn l w) (memoryIn l w₁) e
     tr e x y = subst (λ (R : List (List ℕ)). frontOf R (memoryIn l w₂) e ≡ frontOf R (memoryIn l w₁) e) rs (c .there e x y)
 
+    fewer : 1 + vacantIn (memoryIn l w₂ .owners) ≡ vacantIn (memoryIn l w .owners)
+    fewer =
+        omega (arith, ap vacantIn (c .owners-are), vacant-set (memoryIn l w₁ .owners) v r un (λ z. omega (arith, few-ranks₁)), ap vacantIn (a .owners-are))
+
     pub turn-claim : v ≡ g → (g ≡ unassigned → ⊥) → TurnMade l cap w w₂ r 1
     turn-claim vg z =
         let f = first-is z in
@@ -367,6 +479,7 @@ module _ {l : GrowthRoom} {w w₁ : List ℕ} {cap r g : ℕ} (d : GrowthReady l
         record {
           outside = outside-trans (a .outside) (c .outside);
           ready = c .ready;
+          vacant = fewer;
           kind = λ s st. claim-made r q (a .stands s st) (memoryIn l w₂) v few-ranks₁ un (c .owners-are) hr tr (f .0) f′ .0;
           stands = λ s st. claim-made r q (a .stands s st) (memoryIn l w₂) v few-ranks₁ un (c .owners-are) hr tr (f .0) f′ .1;
         }
@@ -375,6 +488,7 @@ module _ {l : GrowthRoom} {w w₁ : List ℕ} {cap r g : ℕ} (d : GrowthReady l
     turn-restart z e = record {
       outside = outside-trans (a .outside) (c .outside);
       ready = c .ready;
+      vacant = fewer;
       kind = λ s st. restart-made r q (a .stands s st) (memoryIn l w₂) v few-ranks₁ un (c .owners-are) hr tr (none-open z) (restart-then (some v) e) .0;
       stands = λ s st. restart-made r q (a .stands s st) (memoryIn l w₂) v few-ranks₁ un (c .owners-are) hr tr (none-open z) (restart-then (some v) e) .1;
     }
@@ -383,6 +497,7 @@ module _ {l : GrowthRoom} {w w₁ : List ℕ} {cap r g : ℕ} (d : GrowthReady l
   turn-pass z e = record {
     outside = a .outside;
     ready = a .ready;
+    vacant = omega (arith, ap vacantIn (a .owners-are));
     kind = λ s st. pass-made r q (a .stands s st) (none-open z) (restart-then none e) .0;
     stands = λ s st. pass-made r q (a .stands s st) (none-open z) (restart-then none e) .1;
   }

@@ -11,13 +11,15 @@ use borrow.Author.Tests.{eqb-true, le-ltb, lt-ltb, ltb-true, ltb-false}
 use Rattle.links.specs.Lists.{at, All, elem}
 use Rattle.links.specs.Parts.{part, Kept}
 use Rattle.links.proofs.ListLaws.{split, all-append}
-use Rattle.links.proofs.PartLaws.{kept-refl}
+use Rattle.links.proofs.PartLaws.{kept-refl, kept-trans, kept-wide, kept-part-after}
 use Rattle.links.proofs.RowLaws.{all-place}
 use Rattle.stages.specs.Level.{Ready, rowsAt, weightsAt, ownersAt}
 use Rattle.stages.specs.Seeds.{nextSeed, farthestSeeds}
 use Rattle.stages.specs.SeedsCode.{Seedable, Seeded}
 use Rattle.stages.specs.Growth.{Growth, weightedMultisource, grown, restartCount}
 use Rattle.stages.specs.FrontierCode.{memory, rowsIn, memoryIn, GrowthLaid}
+use Rattle.stages.specs.Coarsen.{byDegree}
+use Rattle.stages.specs.Order.{Orderable, OrderedByDegree}
 use Rattle.stages.specs.GrowthCode.{grownNumber, grownValue, grownAnswer, leftCause, Seeds, Sown, Multisource, growthNeed, roomAt, Growable, growthAt, grownAt, growthIn, tooHeavy, tooFew, growthCause, GrownTold}
 use Rattle.stages.specs.declared.level.HierarchyLevel.{HierarchyLevel}
 use Rattle.stages.specs.declared.growth.Grown.{Grown}
@@ -153,13 +155,8 @@ module _ {w : List ℕ} {l : HierarchyLevel} {s k : ℕ} (P : Growable w l s k) 
     laid m e =
         let L = P .level .laid in
         record {
-          level = record {
-            offsets-in = L .offsets-in;
-            neighbors-in = L .neighbors-in;
-            weights-in = L .weights-in;
-            map-in = L .map-in;
-            owners-in = omega arith;
-          };
+          level = L;
+          order-in = omega arith;
           seeds-in = omega arith;
           links-in = omega arith;
           loads-in = omega arith;
@@ -169,6 +166,7 @@ module _ {w : List ℕ} {l : HierarchyLevel} {s k : ℕ} (P : Growable w l s k) 
           counts-in = omega (arith, P .room);
           enough = enough;
           few = P .level .few;
+          few-ranks = P .few-ranks;
         }
 
     module _ {w₁ : List ℕ} (S : Seeded w w₁ l s k) where
@@ -178,14 +176,36 @@ module _ {w : List ℕ} {l : HierarchyLevel} {s k : ℕ} (P : Growable w l s k) 
       ready : Ready w₁ l s
       ready = ready-kept w w₁ l s s (s + 2 * l .vertices + k) (P .level .laid) below (S .kept) (P .level)
 
+      pub orderable : Orderable w₁ l s
+      orderable = record { level = ready; room = omega (arith, S .kept .same-length, P .room) }
+
+    module _ {w₀ w₁ : List ℕ} (S₀ : Seeded w w₀ l s k) (O : OrderedByDegree w₀ w₁ l s) where
+      below₁ : l .weights + l .vertices ≤ s
+      below₁ = below S₀
+
+      kept : Kept s (s + 2 * l .vertices + k) w₁ w
+      kept =
+          kept-trans s (s + 2 * l .vertices + k) w₁ w₀ w
+          (kept-wide s (s + l .vertices) s (s + 2 * l .vertices + k) w₁ w₀ (omega arith) (omega arith) (O .kept)) (S₀ .kept)
+
+      ready₁ : Ready w₁ l s
+      ready₁ = ready-kept w w₁ l s s (s + 2 * l .vertices + k) (P .level .laid) below₁ kept (P .level)
+
+      chosen : part w₁ (s + 2 * l .vertices) (s + 2 * l .vertices + k) ≡ farthestSeeds (rowsAt w l) k
+      chosen = kept-part-after s (s + l .vertices) w₁ w₀ (O .kept) (s + 2 * l .vertices) (s + 2 * l .vertices + k) (omega arith) ∙ S₀ .chosen
+
+      rows₁ : rowsAt w₁ l ≡ rowsAt w l
+      rows₁ = rows-kept w w₁ l s s (s + 2 * l .vertices + k) (P .level .laid) below₁ kept
+
       pub sown : Sown (roomAt l s k) w₁
-      unfolding roomAt
+      unfolding roomAt rowsIn
       sown = record {
-        laid = laid (length w₁) (S .kept .same-length);
-        lists = ready .lists;
-        light = ready .light;
+        laid = laid (length w₁) (kept .same-length);
+        lists = ready₁ .lists;
+        light = ready₁ .light;
+        ordered = O .filled ∙ ap byDegree (rows-kept w w₀ l s s (s + 2 * l .vertices + k) (P .level .laid) below₁ (S₀ .kept) ∙ sym rows₁);
         seeds =
-            subst (Seeds (l .vertices) k) (sym (S .chosen))
+            subst (Seeds (l .vertices) k) (sym chosen)
             (subst (λ (n : ℕ). Seeds n k (farthestSeeds (rowsAt w l) k)) n-is (seeds-good (rowsAt w l) k (omega (arith, n-is))));
       }
 
@@ -194,9 +214,9 @@ module _ {w : List ℕ} {l : HierarchyLevel} {s k : ℕ} (P : Growable w l s k) 
       unfolding roomAt rowsIn
       growth-is cap =
           ap₂ (λ (R : List (List ℕ)) (W : List ℕ). weightedMultisource cap R W (part w₁ (s + 2 * l .vertices) (s + 2 * l .vertices + k)))
-          (rows-kept w w₁ l s s (s + 2 * l .vertices + k) (P .level .laid) below (S .kept))
-          (weights-kept w w₁ l s s (s + 2 * l .vertices + k) (P .level .laid) below (S .kept))
-          ∙ ap (weightedMultisource cap (rowsAt w l) (weightsAt w l)) (S .chosen)
+          rows₁
+          (weights-kept w w₁ l s s (s + 2 * l .vertices + k) (P .level .laid) below₁ kept)
+          ∙ ap (weightedMultisource cap (rowsAt w l) (weightsAt w l)) chosen
 
       pub told-grown
           : (cap : ℕ) {w₂ : List ℕ} {r : Grown}
@@ -213,7 +233,7 @@ module _ {w : List ℕ} {l : HierarchyLevel} {s k : ℕ} (P : Growable w l s k) 
           (M .answer ∙ ap (λ (g : Growth). grownAnswer (leftCause (grown g (g .turns))) (restartCount (g .turns))) (growth-is cap) ∙ sym (ap (λ (n : ℕ). grownAnswer n e) (cause-left cap h f)))
           (λ a b. M .owners-are ∙ ap (λ (g : Growth). grown g (g .turns)) (growth-is cap))
           (record {
-            same-length = o .same-length ∙ S .kept .same-length;
-            below = λ i p. o .below i p ∙ S .kept .below i (omega arith);
-            beyond = λ i p. o .beyond i (omega arith) ∙ S .kept .beyond i (omega arith);
+            same-length = o .same-length ∙ kept .same-length;
+            below = λ i p. o .below i p ∙ kept .below i (omega arith);
+            beyond = λ i p. o .beyond i (omega arith) ∙ kept .beyond i (omega arith);
           })

@@ -13,6 +13,7 @@ use Rattle.links.specs.Parts.{part, putBack, Kept}
 use Rattle.links.specs.Graph.{row, load}
 use Rattle.links.proofs.ListLaws.{split, and-l, count-length}
 use Rattle.links.proofs.PartLaws.{getD-part, getD-putBack-in, part-putBack, kept-putBack, kept-part-before}
+use Rattle.stages.specs.Coarsen.{byDegree}
 use Rattle.stages.specs.Growth.{Growing, Growth, seeded, seedOwners, grown, weightedMultisource, unowned, rounds, afterTurn, restartCount}
 use Rattle.stages.specs.FrontierCode.{cells, front, opens, Memory, memory, rowsIn, weightsIn, memoryIn, GrowthLaid, Outside, cellsOf, frontOf, Good, Stands, owning, begun, GrowthReady, Stored}
 use Rattle.stages.specs.GrowthCode.{StandsIn, roundsOf, grownAnswer, leftCause, GrownTo, seedsIn, Seeds, Sown, Blank, Cleared, Seated, growthIn, Multisource}
@@ -23,7 +24,7 @@ use Rattle.stages.proofs.FrontierLaws.{filter-sub}
 use Rattle.stages.proofs.GrowthMemoryLaws.{outside-refl, outside-trans, between-same, laid-after, lengths}
 use Rattle.stages.proofs.GrowthStateLaws.{Step, good-step, front-there, begin-step, begin-front}
 use Rattle.stages.proofs.GrowthTurnLaws.{openTo}
-use Rattle.stages.proofs.GrowthSliceLaws.{rows-all, rows-same, weights-same, lists-same, ready-after}
+use Rattle.stages.proofs.GrowthSliceLaws.{rows-all, rows-same, weights-same, order-same, lists-same, ready-after}
 
 -- ---- nobody owns a group
 
@@ -55,6 +56,7 @@ sown-after {l} S o =
       laid = laid-after o L;
       lists = lists-same L o (S .lists);
       light = subst (λ (x : List ℕ). sum x < 2 ^ 31) (sym (weights-same {l = l} L o)) (S .light);
+      ordered = order-same L o ∙ S .ordered ∙ ap byDegree (sym (rows-same {l = l} L o));
       seeds = subst (Seeds (l .level .vertices) (l .ranks)) (sym (between-same o (l .seeds) (l .seeds + l .ranks) (omega arith) (omega arith))) (S .seeds);
     }
 
@@ -158,7 +160,7 @@ module _ {l : GrowthRoom} {w : List ℕ} (b : Blank l w) where
       }
 
   blank-ready : GrowthReady l w
-  blank-ready = record { laid = b .sown .laid; lists = b .sown .lists; light = b .sown .light; good = blank-good }
+  blank-ready = record { laid = b .sown .laid; lists = b .sown .lists; light = b .sown .light; ordered = b .sown .ordered; good = blank-good }
 
   pub seated-start : Seated l w w (l .ranks)
   unfolding seedOwners

@@ -1,6 +1,7 @@
 pub mod LoadSetLaws
 pub mod TallyLaws
 pub mod SlotLaws
+pub mod SlotOrderLaws
 pub mod TargetLaws
 pub mod MovesLaws
 pub mod MovesSliceLaws
@@ -34,6 +35,8 @@ pub mod SwapPassLaws
 pub mod RankLaws
 pub mod LevelLaws
 pub mod CoarsenOrderLaws
+pub mod OrderLaws
+pub mod OrderSliceLaws
 pub mod CoarsenChoiceLaws
 pub mod CoarsenTurnLaws
 pub mod CoarsenMarkLaws

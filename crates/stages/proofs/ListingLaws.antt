@@ -1,7 +1,7 @@
 -- Rule 7's listing in the work slice: a vertex is offered to the list of each other rank among its neighbors' owners, once. Assumes nothing.
 use Prim.Native.Nat.{ℕ, zero, suc, _+_, _-_, _*_, _≤_, _<_}
 use mathlib.Core.Path.{_≡_, refl, sym, ap, _∙_}
-use mathlib.Core.Bool.{true, false}
+use mathlib.Core.Bool.{Bool, true, false, not, cond, true≢false}
 use mathlib.Core.List.{List}
 use mathlib.Core.Logic.{_⊎_, inl, inr, ⊎-elim}
 use native.Mathlib.Omega.{arith}
@@ -10,18 +10,18 @@ use lib.Dec.{eqb, ltb}
 use lib.ListN.{length, set, take, length-set}
 use lib.Seq.{getD-set-same, getD-set-other}
 use borrow.Author.Tests.{eq-eqb, ne-eqb, eqb-true, eqb-false, ltb-true, ltb-false, lt-ltb, le-ltb}
-use Rattle.links.specs.Lists.{at, insert}
+use Rattle.links.specs.Lists.{at, any, insert}
 use Rattle.links.specs.Parts.{part, putBack, Kept}
-use Rattle.links.specs.Graph.{linksIn, linksTo}
-use Rattle.links.proofs.ListLaws.{split, tally}
-use Rattle.links.proofs.PartLaws.{part-putBack, kept-refl, kept-trans, kept-wide, kept-set, kept-putBack, kept-part-before, kept-part-after}
+use Rattle.links.specs.Graph.{row, linksIn, linksTo}
+use Rattle.links.proofs.ListLaws.{split, tally, any-of, to-any, elem-map}
+use Rattle.links.proofs.PartLaws.{getD-part, part-putBack, kept-refl, kept-trans, kept-wide, kept-set, kept-putBack, kept-part-before, kept-part-after}
 use Rattle.stages.specs.Level.{offsetsAt, neighborsAt, rowsAt, ownersAt}
 use Rattle.stages.specs.Swaps.{Candidate, ahead, candidates}
-use Rattle.stages.specs.Slots.{candidate, slots}
-use Rattle.stages.specs.MovesCode.{Tallied}
-use Rattle.stages.specs.SwapsCode.{listPlace, listAt, Given, Offered, Waiting, Met, Offering, OfferedEntry, Listed, Holding}
+use Rattle.stages.specs.Slots.{candidate, slots, Sorted}
+use Rattle.stages.specs.MovesCode.{Clear, Tallied}
+use Rattle.stages.specs.SwapsCode.{listPlace, listAt, Given, AllSorted, bordering, Offered, Waiting, Met, Offering, OfferedEntry, Listed, Holding}
 use Rattle.stages.specs.declared.swaps.SwapRoom.{SwapRoom}
-use Rattle.stages.proofs.TallyLaws.{links-cons, links-none}
+use Rattle.stages.proofs.TallyLaws.{any-cons, any-nothing, links-cons, links-none, links-some}
 use Rattle.stages.proofs.MovesSliceLaws.{neighbors-all, rows-all, neighbors-kept, row-part, row-ends, rows-kept, owners-kept}
 use Rattle.stages.proofs.SwapListLaws.{offer-other, offer-none, offer-some, listedTo, listed-more, listed-all}
 use Rattle.stages.proofs.SwapStepLaws.{given-after}
@@ -55,8 +55,36 @@ pair-apart a b c d k h m e = split (ltb a c)
 
 module _ {w w′ : List ℕ} (s : SwapRoom) where
   -- a list stays where something before the lists changed, or another list
+  part-kept
+      : {x e : ℕ} → Kept x e w′ w → e ≤ s .lists → (a b : ℕ)
+      → part w′ (listPlace s a b) (listPlace s a b + 24) ≡ part w (listPlace s a b) (listPlace s a b + 24)
+  part-kept {x} {e} k h a b = kept-part-after x e w′ w k (listPlace s a b) (listPlace s a b + 24) (omega arith)
+
   pub list-kept : {x e : ℕ} → Kept x e w′ w → e ≤ s .lists → (a b : ℕ) → listAt w′ s a b ≡ listAt w s a b
-  list-kept {x} {e} k h a b = ap (slots candidate 8) (kept-part-after x e w′ w k (listPlace s a b) (listPlace s a b + 24) (omega arith))
+  list-kept k h a b = ap (slots candidate 8) (part-kept k h a b)
+
+  pub sorted-kept : {x e : ℕ} → Kept x e w′ w → e ≤ s .lists → AllSorted w s → AllSorted w′ s
+  sorted-kept k h o a b p q = rw (part-kept k h a b) (o a b p q)
+
+  part-other
+      : (a b : ℕ)
+      → Kept (listPlace s a b) (listPlace s a b + 24) w′ w
+      → (c d : ℕ)
+      → b < s .limits .ranks
+      → d < s .limits .ranks
+      → ((c ≡ a) × (d ≡ b) → ⊥)
+      → part w′ (listPlace s c d) (listPlace s c d + 24) ≡ part w (listPlace s c d) (listPlace s c d + 24)
+  part-other a b k c d h m f =
+      let p = a * s .limits .ranks + b in
+      let q = c * s .limits .ranks + d in
+      split (ltb q p)
+      (λ l.
+      let z : q < p = ltb-true q p l in
+      kept-part-before (listPlace s a b) (listPlace s a b + 24) w′ w k (listPlace s c d) (listPlace s c d + 24) (omega arith))
+      (λ l.
+      let z : p ≤ q = ltb-false q p l in
+      let y : p < q = split (ltb p q) (λ i. ltb-true p q i) (λ i. let j : q ≤ p = ltb-false p q i in absurd (f (pair-apart c d a b (s .limits .ranks) m h (omega arith)))) in
+      kept-part-after (listPlace s a b) (listPlace s a b + 24) w′ w k (listPlace s c d) (listPlace s c d + 24) (omega arith))
 
   pub list-other
       : (a b : ℕ)
@@ -66,18 +94,29 @@ module _ {w w′ : List ℕ} (s : SwapRoom) where
       → d < s .limits .ranks
       → ((c ≡ a) × (d ≡ b) → ⊥)
       → listAt w′ s c d ≡ listAt w s c d
-  list-other a b k c d h m f =
-      let p = a * s .limits .ranks + b in
-      let q = c * s .limits .ranks + d in
-      ap (slots candidate 8)
-      (split (ltb q p)
-      (λ l.
-      let z : q < p = ltb-true q p l in
-      kept-part-before (listPlace s a b) (listPlace s a b + 24) w′ w k (listPlace s c d) (listPlace s c d + 24) (omega arith))
-      (λ l.
-      let z : p ≤ q = ltb-false q p l in
-      let y : p < q = split (ltb p q) (λ i. ltb-true p q i) (λ i. let j : q ≤ p = ltb-false p q i in absurd (f (pair-apart c d a b (s .limits .ranks) m h (omega arith)))) in
-      kept-part-after (listPlace s a b) (listPlace s a b + 24) w′ w k (listPlace s c d) (listPlace s c d + 24) (omega arith)))
+  list-other a b k c d h m f = ap (slots candidate 8) (part-other a b k c d h m f)
+
+  -- where one list changed and is sorted, and the others were
+  pub sorted-other
+      : (a b : ℕ)
+      → Kept (listPlace s a b) (listPlace s a b + 24) w′ w
+      → b < s .limits .ranks
+      → Sorted candidate ahead 8 (part w′ (listPlace s a b) (listPlace s a b + 24))
+      → AllSorted w s
+      → AllSorted w′ s
+  sorted-other a b k h here o c d p q = split (eqb c a)
+      (λ x. split (eqb d b)
+      (λ y. let e : c ≡ a = eqb-true c a x in let f : d ≡ b = eqb-true d b y in rw (e, f) here)
+      (λ y. let n = eqb-false d b y in rw (part-other a b k c d h q (λ z. n (z .1))) (o c d p q)))
+      (λ x. let n = eqb-false c a x in rw (part-other a b k c d h q (λ z. n (z .0))) (o c d p q))
+
+-- empty lists are sorted
+pub sorted-empty : (w : List ℕ) (s : SwapRoom) → Clear w (s .lists) (24 * (s .limits .ranks * s .limits .ranks)) → AllSorted w s
+sorted-empty w s z a b p q i j h k f =
+    let l = listPlace s a b in
+    let m = pair-below a b (s .limits .ranks) p q in
+    let e : s .lists + (24 * (a * s .limits .ranks + b) + 3 * j) ≡ l + 3 * j = omega arith in
+    absurd (f (getD-part w l (l + 24) (3 * j) (omega arith) ∙ (rw e at (z (24 * (a * s .limits .ranks + b) + 3 * j) (omega arith)))))
 
 -- the room stays where something from the used flags on changed
 module _ {w w′ : List ℕ} {s : SwapRoom} {x e : ℕ} (g : Given w s) (k : Kept x e w′ w) (h : s .used ≤ x) where
@@ -258,9 +297,10 @@ pub listed
     → (w₁ w₂ w₃ : List ℕ)
     → Kept (s .tallies) (s .tallies + s .limits .ranks) w₁ w
     → Offering w₁ w₂ s a v (at (offsetsAt w₁ (s .level)) (v + 1)) (at (offsetsAt w₁ (s .level)) (v + 1))
+    → AllSorted w₂ s
     → w₃ ≡ set w₂ (s .tallies + a) 0
     → Listed w w₃ s v
-listed {w} {s} {v} g h a av w₁ w₂ w₃ k₁ o e₃ =
+listed {w} {s} {v} g h a av w₁ w₂ w₃ k₁ o sorted₂ e₃ =
     let k = s .limits .ranks in
     let l = s .level in
     let tin : s .tallies + k ≤ s .lists = g .tallies-in in
@@ -285,6 +325,7 @@ listed {w} {s} {v} g h a av w₁ w₂ w₃ k₁ o e₃ =
           rw (e₃, e) (getD-set-same w₂ (s .tallies + a) 0 0 (omega arith)))
           (λ q. let d = eqb-false r a q in
           rw e₃ (getD-set-other w₂ (s .tallies + a) (s .tallies + r) 0 0 (λ z. d (omega arith)) ∙ offering-end g₁ h av₁ o r p d .cleared));
+      sorted = sorted-kept s k₃ (omega arith) sorted₂;
       lists = λ x y p q d.
           list-kept s k₃ (omega arith) x y
           ∙ split (eqb x a)
@@ -295,6 +336,76 @@ listed {w} {s} {v} g h a av w₁ w₂ w₃ k₁ o e₃ =
           ∙ sym (offer-other 8 (rowsAt w l) (ownersAt w l) x y (listAt w s x y) v (ne-eqb _ _ (λ z. n (sym (av ∙ z))))));
     }
 
+-- ---- a vertex on no border
+
+-- a neighbor is of another rank than v
+abbrev foreign : List ℕ → SwapRoom → ℕ → ℕ → Bool
+foreign w s v u = not (eqb (at (ownersAt w (s .level)) u) (at (ownersAt w (s .level)) v))
+
+-- and one of those from entry i on
+abbrev pub borderFrom : List ℕ → SwapRoom → ℕ → ℕ → Bool
+borderFrom w s v i = any (foreign w s v) (part (neighborsAt w (s .level)) i (at (offsetsAt w (s .level)) (v + 1)))
+
+abbrev pub borderAt : List ℕ → SwapRoom → ℕ → Bool
+borderAt w s v = bordering (rowsAt w (s .level)) (ownersAt w (s .level)) v
+
+module _ {w : List ℕ} {s : SwapRoom} {v : ℕ} (g : Given w s) (h : v < s .level .vertices) where
+  pub border-start : borderFrom w s v (at (offsetsAt w (s .level)) v) ≡ borderAt w s v
+  unfolding bordering
+  border-start = ap (any (foreign w s v)) (sym (row-part (g .ready) v h))
+
+  pub border-end : borderFrom w s v (at (offsetsAt w (s .level)) (v + 1)) ≡ borderAt w s v → false ≡ borderAt w s v
+  border-end t = sym (any-nothing (foreign w s v) (neighborsAt w (s .level)) (at (offsetsAt w (s .level)) (v + 1))) ∙ t
+
+  -- a turn
+  module _
+      (home i r : ℕ) (a : home ≡ at (ownersAt w (s .level)) v) (to : i < at (offsetsAt w (s .level)) (v + 1))
+      (c : r ≡ at (ownersAt w (s .level)) (at (neighborsAt w (s .level)) i)) (t : borderFrom w s v i ≡ borderAt w s v) where
+    one : borderFrom w s v i ≡ cond (not (eqb r home)) true (borderFrom w s v (i + 1))
+    one =
+        any-cons (foreign w s v) (neighborsAt w (s .level)) i (at (offsetsAt w (s .level)) (v + 1)) to
+        (omega (arith, row-ends (g .ready) v h, neighbors-all (g .ready)))
+        ∙ rw (a, c)
+
+    pub border-here : (r ≡ home → ⊥) → true ≡ borderAt w s v
+    border-here d = sym (one ∙ rw (ne-eqb r home d)) ∙ t
+
+    pub border-next : r ≡ home → borderFrom w s v (i + 1) ≡ borderAt w s v
+    border-next e = sym (one ∙ rw (eq-eqb r home e)) ∙ t
+
+  -- it has no neighbor in another rank
+  no-links
+      : borderAt w s v ≡ false
+      → (b : ℕ)
+      → (at (ownersAt w (s .level)) v ≡ b → ⊥)
+      → ltb 0 (linksTo (rowsAt w (s .level)) (ownersAt w (s .level)) v b) ≡ false
+  unfolding bordering
+  no-links f b d =
+      let rows = rowsAt w (s .level) in
+      let os = ownersAt w (s .level) in
+      let n = linksTo rows os v b in
+      split (ltb 0 n)
+      (λ p.
+      let u = any-of (λ u. eqb b (at os u)) (row rows v) (sym (elem-map b (at os) (row rows v)) ∙ links-some (row rows v) os b (ltb-true 0 n p)) in
+      let e : b ≡ at os (u .0) = eqb-true b (at os (u .0)) (u .2) in
+      let y : foreign w s v (u .0) ≡ true = rw (ne-eqb (at os (u .0)) (at os v) (λ q. d (sym (e ∙ q)))) in
+      absurd (true≢false (sym (to-any (foreign w s v) (row rows v) (u .0) (u .1) y) ∙ f)))
+      (λ p. p)
+
+  -- it is listed nowhere
+  pub unlisted : (r : Bool) → r ≡ borderAt w s v → r ≡ false → Clear w (s .tallies) (s .limits .ranks) → AllSorted w s → Listed w w s v
+  unlisted r e f z o = record {
+    kept = kept-refl (s .tallies) (length w) w;
+    clear = z;
+    sorted = o;
+    lists = λ a b p q d.
+        let os = ownersAt w (s .level) in
+        split (eqb (at os v) a)
+        (λ x. let y : at os v ≡ a = eqb-true (at os v) a x in
+        sym (offer-none 8 (rowsAt w (s .level)) os a b (listAt w s a b) v (no-links (sym e ∙ f) b (λ n. d (sym y ∙ n)))))
+        (λ x. sym (offer-other 8 (rowsAt w (s .level)) os a b (listAt w s a b) v x));
+  }
+
 -- ---- what the code's steps come to
 
 -- a list lent as a part
@@ -303,9 +414,11 @@ pub offered-part
     → a + 24 ≤ length w
     → length ys ≡ a + 24 - a
     → slots candidate 8 ys ≡ take 8 (insert ahead x (slots candidate 8 (part w a (a + 24))))
+    → Sorted candidate ahead 8 ys
     → Offered w (putBack w a (a + 24) ys) a x
-offered-part w ys a x h n e = record {
+offered-part w ys a x h n e o = record {
   here = ap (slots candidate 8) (part-putBack w a (a + 24) ys (omega arith) h n) ∙ e;
+  sorted = rw (part-putBack w a (a + 24) ys (omega arith) h n) o;
   kept = kept-putBack w a (a + 24) ys (omega arith) h n;
 }
 
@@ -319,21 +432,38 @@ first-owner
 first-owner c i g k ec =
     rw (owners-same g k (omega (arith, g .used-in, g .loads-in)), neighbors-kept (g .ready) k (omega (arith, g .used-in, g .loads-in, g .ready .laid .owners-in))) at ec
 
+-- the list that a vertex is offered to is sorted when its tally has been cleared
+pub entry-sorted
+    : {w : List ℕ} {s : SwapRoom} (a c : ℕ)
+    → Given w s
+    → a < s .limits .ranks
+    → c < s .limits .ranks
+    → AllSorted w s
+    → (p : ℕ)
+    → p ≡ listPlace s a c
+    → Sorted candidate ahead 8 (part (set w (s .tallies + c) 0) p (p + 24))
+entry-sorted {w} {s} a c g ar cr o p e =
+    let k = kept-set (s .tallies) (s .lists) w w (s .tallies + c) 0 (kept-refl (s .tallies) (s .lists) w) (omega arith) (omega (arith, g .tallies-in)) in
+    rw e (sorted-kept s k (omega arith) o a c ar cr)
+
 module _ {w : List ℕ} {s : SwapRoom} {a v i : ℕ} (c : ℕ) (ec : c ≡ at (ownersAt w (s .level)) (at (neighborsAt w (s .level)) i)) where
-  pub entry-own : c ≡ a → OfferedEntry w w s a v i
-  entry-own e = record {
+  pub entry-own : AllSorted w s → c ≡ a → OfferedEntry w w s a v i
+  entry-own q e = record {
     kept = kept-refl (s .tallies) (length w) w;
+    sorted = q;
     turn = λ w₀ g h av l o. offering-own g h av o l c (first-owner c i g (o .kept) ec) e;
   }
 
-  pub entry-met : (c ≡ a → ⊥) → at w (s .tallies + c) ≡ 0 → OfferedEntry w w s a v i
-  entry-met f z = record {
+  pub entry-met : AllSorted w s → (c ≡ a → ⊥) → at w (s .tallies + c) ≡ 0 → OfferedEntry w w s a v i
+  entry-met q f z = record {
     kept = kept-refl (s .tallies) (length w) w;
+    sorted = q;
     turn = λ w₀ g h av l o. offering-met g h av o l c (first-owner c i g (o .kept) ec) f z;
   }
 
   pub entry-new
       : Given w s
+      → AllSorted w s
       → a < s .limits .ranks
       → c < s .limits .ranks
       → (c ≡ a → ⊥)
@@ -342,7 +472,7 @@ module _ {w : List ℕ} {s : SwapRoom} {a v i : ℕ} (c : ℕ) (ec : c ≡ at (o
       → p ≡ listPlace s a c
       → Offered (set w (s .tallies + c) 0) w₂ p (candidate (at w (s .tallies + c)) (at w (s .tallies + a)) v)
       → OfferedEntry w w₂ s a v i
-  entry-new g ar cr f nz w₂ p ep d =
+  entry-new g o ar cr f nz w₂ p ep d =
       let k = s .limits .ranks in
       let w₁ = set w (s .tallies + c) 0 in
       let d′ : Offered w₁ w₂ (listPlace s a c) (candidate (at w (s .tallies + c)) (at w (s .tallies + a)) v) = rw ep at d in
@@ -354,6 +484,8 @@ module _ {w : List ℕ} {s : SwapRoom} {a v i : ℕ} (c : ℕ) (ec : c ≡ at (o
         kept = kept-trans (s .tallies) (length w) w₂ w₁ w
             (kept-wide (listPlace s a c) (listPlace s a c + 24) (s .tallies) (length w) w₂ w₁ (omega arith) (omega arith) (d′ .kept))
             (kept-set (s .tallies) (length w) w w (s .tallies + c) 0 (kept-refl (s .tallies) (length w) w) (omega arith) (omega arith));
+        sorted = sorted-other s a c (d′ .kept) cr (d′ .sorted)
+            (sorted-kept s (kept-set (s .tallies) (s .lists) w w (s .tallies + c) 0 (kept-refl (s .tallies) (s .lists) w) (omega arith) (omega arith)) (omega arith) o);
         turn = λ w₀ g₀ h av l o.
             offering-new g₀ h av o l c (first-owner c i g₀ (o .kept) ec) f cr (at w (s .tallies + c)) (at w (s .tallies + a)) refl nz refl w₁ w₂ refl d′;
       }

@@ -9,21 +9,21 @@ use lib.ListN.{length, set, length-set}
 use lib.Seq.{getD-set-same, getD-set-other, ext-getD}
 use lib.Dec.{leb, ltb, eqb}
 use borrow.Author.Tests.{ne-eqb, eqb-true, eqb-false, ltb-true, ltb-false, le-leb, leb-true}
-use Rattle.links.specs.Lists.{at, All, foldl}
+use Rattle.links.specs.Lists.{at, All, any, foldl}
 use Rattle.links.specs.Parts.{part, Kept}
 use Rattle.links.specs.Graph.{row, linksTo, load}
 use Rattle.links.proofs.ListLaws.{split, iff-eq, all-to}
 use Rattle.links.proofs.PartLaws.{kept-set, kept-refl, kept-wide, part-set-in}
 use Rattle.stages.specs.Level.{offsetsAt, neighborsAt, rowsAt, weightsAt, ownersAt, Ready, balanceIn}
 use Rattle.stages.specs.Moves.{Step, after, mayLeave, target, destination, movePass}
-use Rattle.stages.specs.MovesCode.{Clear, Roomed, Tallied, Weighed, Moving, Shifted, Stepped, offerOf, betterOffer, offered}
+use Rattle.stages.specs.MovesCode.{Clear, Roomed, Tallied, Weighed, Moving, Shifted, Stepped, tempts, tempting, offerOf, betterOffer, offered}
 use Rattle.stages.specs.declared.level.HierarchyLevel.{HierarchyLevel}
 use Rattle.stages.specs.declared.level.Limits.{Limits}
 use Rattle.stages.specs.declared.moves.Offer.{Offer}
 use Rattle.stages.proofs.StepLaws.{foldl-append}
 use Rattle.stages.proofs.LoadSetLaws.{load-set, load-sum, load-holds}
-use Rattle.stages.proofs.TallyLaws.{part-snoc}
-use Rattle.stages.proofs.TargetLaws.{noOffer, offerAt, bestOffer, target-found, target-rank}
+use Rattle.stages.proofs.TallyLaws.{part-snoc, any-cons, any-nothing}
+use Rattle.stages.proofs.TargetLaws.{noOffer, offerAt, bestOffer, target-found, target-rank, untempted}
 use Rattle.stages.proofs.MovesSliceLaws.{neighbors-all, weights-all, owners-all, rows-all, row-part, row-ends, rows-kept, weights-kept, owners-kept, ready-kept, ready-by}
 
 -- the tallies stand behind the loads
@@ -33,6 +33,47 @@ tallies-roomed {w} {l} {scratch} {ranks} q =
 
 pub weighed-whole : {w : List ℕ} {l : HierarchyLevel} {scratch ranks : ℕ} → Weighed w l scratch ranks → Ready w l (length w)
 weighed-whole {w} {l} {scratch} {ranks} q = ready-by (length w) (q .ready) (omega (arith, q .room)) (omega arith)
+
+-- ---- whether there is any
+
+-- a neighbor's owner tempts v
+abbrev tempter : List ℕ → HierarchyLevel → Limits → ℕ → ℕ → Bool
+tempter w l limits v u =
+    tempts (limits .cap) (at (weightsAt w l) v) (load (weightsAt w l) (ownersAt w l) (at (ownersAt w l) u)) (at (ownersAt w l) v) (at (ownersAt w l) u)
+
+-- and one of those from entry i on
+abbrev pub temptedFrom : List ℕ → HierarchyLevel → Limits → ℕ → ℕ → Bool
+temptedFrom w l limits v i = any (tempter w l limits v) (part (neighborsAt w l) i (at (offsetsAt w l) (v + 1)))
+
+abbrev pub temptedAt : List ℕ → HierarchyLevel → Limits → ℕ → Bool
+temptedAt w l limits v = tempting (balanceIn limits) (rowsAt w l) (weightsAt w l) (ownersAt w l) v
+
+module _ {w : List ℕ} {l : HierarchyLevel} {scratch : ℕ} (limits : Limits) (q : Weighed w l scratch (limits .ranks)) (v : ℕ) (h : v < l .vertices) where
+  pub tempted-start : temptedFrom w l limits v (at (offsetsAt w l) v) ≡ temptedAt w l limits v
+  unfolding tempting
+  tempted-start = ap (any (tempter w l limits v)) (sym (row-part (q .ready) v h))
+
+  pub tempted-end : temptedFrom w l limits v (at (offsetsAt w l) (v + 1)) ≡ temptedAt w l limits v → false ≡ temptedAt w l limits v
+  tempted-end t = sym (any-nothing (tempter w l limits v) (neighborsAt w l) (at (offsetsAt w l) (v + 1))) ∙ t
+
+  -- a turn
+  module _
+      (home weight i r : ℕ) (a : home ≡ at (ownersAt w l) v) (b : weight ≡ at (weightsAt w l) v) (to : i < at (offsetsAt w l) (v + 1))
+      (c : r ≡ at (ownersAt w l) (at (neighborsAt w l) i)) (d : r < limits .ranks) (x : Bool)
+      (e : x ≡ tempts (limits .cap) weight (at w (scratch + r)) home r) (t : temptedFrom w l limits v i ≡ temptedAt w l limits v) where
+    tempter-is : tempter w l limits v (at (neighborsAt w l) i) ≡ x
+    tempter-is = rw (← c, ← a, ← b, ← q .loaded r d) (sym e)
+
+    one : temptedFrom w l limits v i ≡ cond x true (temptedFrom w l limits v (i + 1))
+    one =
+        any-cons (tempter w l limits v) (neighborsAt w l) i (at (offsetsAt w l) (v + 1)) to (omega (arith, row-ends (q .ready) v h, neighbors-all (q .ready)))
+        ∙ ap (λ (y : Bool). cond y true (temptedFrom w l limits v (i + 1))) tempter-is
+
+    pub tempted-here : x ≡ true → true ≡ temptedAt w l limits v
+    tempted-here y = sym (one ∙ rw y) ∙ t
+
+    pub tempted-next : x ≡ false → temptedFrom w l limits v (i + 1) ≡ temptedAt w l limits v
+    tempted-next y = sym (one ∙ rw y) ∙ t
 
 -- ---- the best offer
 
@@ -229,6 +270,15 @@ module _ {w : List ℕ} {l : HierarchyLevel} {scratch ranks : ℕ} (q : Weighed 
         }
 
 -- ---- the turn
+
+-- no rank tempts v: no offer
+pub no-offer
+    : (limits : Limits) (rows : List (List ℕ)) (weights owners : List ℕ) (v : ℕ) (r : Bool)
+    → r ≡ tempting (balanceIn limits) rows weights owners v
+    → r ≡ false
+    → offered noOffer ≡ target (balanceIn limits) rows weights owners v
+unfolding offered
+no-offer limits rows weights owners v r e f = sym (untempted (balanceIn limits) rows weights owners v (sym e ∙ f))
 
 -- the tallies are as they were
 pub cleared-again

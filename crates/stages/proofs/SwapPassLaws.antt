@@ -15,7 +15,7 @@ use Rattle.stages.specs.Moves.{Step, after}
 use Rattle.stages.specs.Swaps.{Proposal, candidates, proposals, allProposals, refineFinePairSwaps}
 use Rattle.stages.specs.Slots.{candidate, proposal, slots}
 use Rattle.stages.specs.MovesCode.{Clear, Loaded, Roomed}
-use Rattle.stages.specs.SwapsCode.{listPlace, Given, Standing, Marked, Empty, Holding, ListedAll, proposed, Fair, Named, Facing, Taken, rankProposals, ranksProposals, passFrom, Stepped, swapsAt, Swappable, RefinedBySwaps}
+use Rattle.stages.specs.SwapsCode.{listPlace, Given, AllSorted, Standing, Marked, Empty, Holding, ListedAll, proposed, Fair, Named, Facing, Taken, rankProposals, ranksProposals, passFrom, Stepped, swapsAt, Swappable, RefinedBySwaps}
 use Rattle.stages.specs.declared.swaps.SwapRoom.{SwapRoom}
 use Rattle.stages.proofs.CutLaws.{cut-entries, list-entries}
 use Rattle.stages.proofs.StepLaws.{swaps-few}
@@ -25,7 +25,7 @@ use Rattle.stages.proofs.SlotLaws.{slots-empty}
 use Rattle.stages.proofs.SwapListLaws.{range-more, concat-append, proposals-are, proposals-none, proposals-none-back, candidates-fair, proposals-named}
 use Rattle.stages.proofs.SwapsSliceLaws.{row-few, roomed}
 use Rattle.stages.proofs.SwapStepLaws.{taken-none, taken-then}
-use Rattle.stages.proofs.ListingLaws.{pair-below, list-kept, given-kept, owners-same}
+use Rattle.stages.proofs.ListingLaws.{pair-below, list-kept, given-kept, owners-same, sorted-empty}
 
 -- ---- two ranks
 
@@ -185,6 +185,9 @@ module _ {w w₁ w₂ : List ℕ} {s : SwapRoom} (t : Standing w s) (z : Clear w
 
   pub empty₂ : Empty w₂ s
   empty₂ a b p q = first-of (standing₂ .given) (listPlace s a b) (z₂ (24 * (a * ranks + b)) (omega (arith, pair-below a b ranks p q)))
+
+  pub sorted₂ : AllSorted w₂ s
+  sorted₂ = sorted-empty w₂ s z₂
 
   -- all are listed
   module _ {w₃ : List ℕ} (l : ListedAll w₂ w₃ s) where

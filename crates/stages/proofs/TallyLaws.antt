@@ -1,14 +1,14 @@
 -- Laws of tallies: a vertex's neighbors counted by their owners, entry by entry. Assumes nothing.
 use Prim.Native.Nat.{ℕ, suc, _+_, _-_, _≤_, _<_}
 use mathlib.Core.Path.{_≡_, ap, _∙_}
-use mathlib.Core.Bool.{Bool, true}
+use mathlib.Core.Bool.{Bool, true, false, cond}
 use mathlib.Core.List.{List, [], _∷_, _++_, map}
 use native.Mathlib.Omega.{arith}
 use native.Mathlib.Numerals.{add-one}
 use lib.ListN.{length, drop, length-drop}
 use lib.Seq.{drop-cons, take-suc, getD-drop}
 use lib.Dec.{eqb}
-use Rattle.links.specs.Lists.{at, elem}
+use Rattle.links.specs.Lists.{at, any, elem}
 use Rattle.links.specs.Parts.{part}
 use Rattle.links.specs.Graph.{linksIn}
 use Rattle.links.proofs.ListLaws.{split, eqb-sym, tally, count, count-cons, count-length, count-append}
@@ -27,6 +27,14 @@ part-cons xs i e h k =
     let f : e - i ≡ suc (e - (i + 1)) = omega arith in
     let j : i < length xs = omega arith in
     rw (f, drop-cons xs i 0 j, add-one)
+
+-- whether one of a part passes a test, entry by entry
+pub any-cons
+    : (p : ℕ → Bool) (xs : List ℕ) (i e : ℕ) → i < e → e ≤ length xs → any p (part xs i e) ≡ cond (p (at xs i)) true (any p (part xs (i + 1) e))
+any-cons p xs i e h k = ap (any p) (part-cons xs i e h k)
+
+pub any-nothing : (p : ℕ → Bool) (xs : List ℕ) (e : ℕ) → any p (part xs e e) ≡ false
+any-nothing p xs e = let z : e - e ≡ 0 = omega arith in rw z
 
 pub links-snoc
     : (xs os : List ℕ) (a i r : ℕ)

@@ -3,7 +3,7 @@
 use Prim.Native.Nat.{ℕ, zero, suc, _+_, _-_, _<_}
 use mathlib.Core.Path.{_≡_, refl, sym, ap, _∙_, subst}
 use mathlib.Core.Logic.{_⊎_, inl, inr, ⊎-elim}
-use mathlib.Core.Bool.{Bool, true, false, _&&_, _||_, cond, true≢false, false≢true}
+use mathlib.Core.Bool.{Bool, true, false, not, _&&_, _||_, cond, true≢false, false≢true}
 use mathlib.Core.List.{List, [], _∷_, map}
 use mathlib.Core.Option.{Option, none, some}
 use native.Mathlib.Omega.{arith}
@@ -12,11 +12,11 @@ use borrow.Author.Tests.{eq-eqb, ne-eqb, eqb-true, eqb-false, ltb-true, ltb-fals
 use Rattle.links.specs.Lists.{at, All, above, filter, foldl, best, range, elem}
 use Rattle.links.specs.Loads.{Balance}
 use Rattle.links.specs.Graph.{row, linksTo, load}
-use Rattle.links.proofs.ListLaws.{split, and-l, and-r, all-in, all-map}
+use Rattle.links.proofs.ListLaws.{split, and-l, and-r, and-i, all-in, all-map, any-of, to-any, elem-map}
 use Rattle.links.proofs.BestLaws.{met, step, left, one-more, all-met}
 use Rattle.stages.specs.declared.moves.Offer.{Offer}
 use Rattle.stages.specs.Moves.{move, gain, mayJoin, preferred, target}
-use Rattle.stages.specs.MovesCode.{offerOf, betterOffer, offered}
+use Rattle.stages.specs.MovesCode.{offerOf, betterOffer, offered, tempts, tempting}
 use Rattle.stages.proofs.TallyLaws.{links-some}
 
 nothing : {A : Type 0} (x : ℕ) → _≡_ {A = Option ℕ} none (some x) → A
@@ -337,3 +337,32 @@ module _ (b : Balance) (rows : List (List ℕ)) (weights owners : List ℕ) (v :
   pub target-rank : (r : ℕ) → target b rows weights owners v ≡ some r → r < b .ranks
   unfolding target
   target-rank r e = top-best (λ s. offerAt s .gain) passing (preferred b rows weights owners v) agrees (b .ranks) .passes r e .0
+
+  -- one that passes tempts v: it is not v's own, which gains nothing, and owns a neighbor
+  passing-tempts : (r : ℕ) → passing r ≡ true → tempts (b .cap) (at weights v) (load weights owners r) (at owners v) r ≡ true
+  unfolding tempts mayJoin gain
+  passing-tempts r p =
+      let l = ltb-true 0 (gain rows owners (move v r)) (and-l (ltb 0 (gain rows owners (move v r))) (mayJoin b rows weights owners v r) p) in
+      let j = and-r (ltb 0 (gain rows owners (move v r))) (mayJoin b rows weights owners v r) p in
+      let other : r ≡ at owners v → ⊥ = λ e. let z : 0 < linksTo rows owners v (at owners v) - linksTo rows owners v (at owners v) = rw e at l in omega arith in
+      rw (ne-eqb r (at owners v) other) j
+
+  passing-tempting : (r : ℕ) → passing r ≡ true → tempting b rows weights owners v ≡ true
+  unfolding tempting
+  passing-tempting r p =
+      let test : ℕ → Bool = λ u. tempts (b .cap) (at weights v) (load weights owners (at owners u)) (at owners v) (at owners u) in
+      let u = any-of (λ u. eqb r (at owners u)) (row rows v) (sym (elem-map r (at owners) (row rows v)) ∙ has-neighbor r p) in
+      let e : r ≡ at owners (u .0) = eqb-true r (at owners (u .0)) (u .2) in
+      to-any test (row rows v) (u .0) (u .1) (rw (← e) (passing-tempts r p))
+
+  target-passes : (r : ℕ) → target b rows weights owners v ≡ some r → passing r ≡ true
+  unfolding target
+  target-passes r e = top-best (λ s. offerAt s .gain) passing (preferred b rows weights owners v) agrees (b .ranks) .passes r e .1
+
+  -- a vertex that no rank tempts has no target
+  pub untempted : tempting b rows weights owners v ≡ false → target b rows weights owners v ≡ none
+  untempted f = go (target b rows weights owners v) (λ r e. e)
+    where
+      go : (o : Option ℕ) → ((r : ℕ) → o ≡ some r → target b rows weights owners v ≡ some r) → o ≡ none
+      go none h = refl
+      go (some r) h = absurd (true≢false (sym (passing-tempting r (target-passes r (h r refl))) ∙ f))

@@ -11,6 +11,7 @@ use Rattle.links.specs.Lists.{at, unassigned, filter, elem, concatMap, sum, All
 use Rattle.links.specs.Parts.{part}
 use Rattle.links.specs.Graph.{row, degree, load, vertexCount, SoundLists}
 use Rattle.stages.specs.Level.{Laid, offsetsAt, neighborsAt, rowsAt, weightsAt, ownersAt}
+use Rattle.stages.specs.Coarsen.{byDegree}
 use Rattle.stages.specs.Growth.{Growing, Choice, passes, claims, restarts, unowned}
 use Rattle.stages.specs.declared.growth.GrowthRoom.{GrowthRoom}
 
@@ -75,6 +76,13 @@ pub record Sought (rows : List (List ℕ)) (links : List ℕ) (ok : ℕ → Bool
 unfoldable pub candidateAt : List (List ℕ) → ℕ → ℕ → ℕ → ℕ
 candidateAt rows h p n = cond (eqb n 0) unassigned (at (row rows h) p)
 
+-- p is the place of the first at or after `from` that passes the test, or the end
+pub record FirstOpen (ok : ℕ → Bool) (order : List ℕ) (from p : ℕ) : Type 0 where
+  pub onward : from ≤ p
+  pub inside : p ≤ length order
+  pub closed : (i : ℕ) → from ≤ i → i < p → ok (at order i) ≡ false
+  pub found : p < length order → ok (at order p) ≡ true
+
 -- the lists that the leaves are lent: a sound level of at most 16,384 groups, and a number for each group
 pub record Lent (offsets neighbors weights owners : List ℕ) : Type 0 where
   pub lists : SoundLists offsets neighbors
@@ -107,6 +115,10 @@ weightsIn l w = weightsAt w (l .level)
 abbrev pub linksIn : GrowthRoom → List ℕ → List ℕ
 linksIn l w = part w (l .links) (l .links + l .level .vertices)
 
+-- the groups by degree falling, then number rising
+abbrev pub orderIn : GrowthRoom → List ℕ → List ℕ
+orderIn l w = part w (l .order) (l .order + l .level .vertices)
+
 abbrev pub perRank : ℕ → ℕ → List ℕ → List ℕ
 perRank a k w = part w a (a + k)
 
@@ -123,7 +135,8 @@ memoryIn l w =
 
 -- the level, then the regions one after the other
 pub record GrowthLaid (l : GrowthRoom) (size : ℕ) : Type 0 where
-  pub level : Laid (l .level) (l .seeds)
+  pub level : Laid (l .level) (l .order)
+  pub order-in : l .order + l .level .vertices ≤ l .seeds
   pub seeds-in : l .seeds + l .ranks ≤ l .links
   pub links-in : l .links + l .level .vertices ≤ l .loads
   pub loads-in : l .loads + l .ranks ≤ l .heads
@@ -133,6 +146,7 @@ pub record GrowthLaid (l : GrowthRoom) (size : ℕ) : Type 0 where
   pub counts-in : l .counts + l .ranks ≤ size
   pub enough : l .ranks ≤ l .level .vertices
   pub few : l .level .vertices ≤ 16384
+  pub few-ranks : l .ranks ≤ 256
 
 -- nothing but the owners, and what lies from the links up to the counts, was written
 pub record Outside (l : GrowthRoom) (w w′ : List ℕ) : Type 0 where
@@ -203,11 +217,12 @@ appended m r g =
     (m .places)
     (set (m .counts) r (at (m .counts) r + 1))
 
--- what each turn rests on: the level's lists, light enough for a load in 32 bits, and the memory
+-- what each turn rests on: the level's lists, light enough for a load in 32 bits, its order by degree, and the memory
 pub record GrowthReady (l : GrowthRoom) (w : List ℕ) : Type 0 where
   pub laid : GrowthLaid l (length w)
   pub lists : SoundLists (offsetsAt w (l .level)) (neighborsAt w (l .level))
   pub light : sum (weightsIn l w) < 2 ^ 31
+  pub ordered : orderIn l w ≡ byDegree (rowsIn l w)
   pub good : Good (rowsIn l w) (weightsIn l w) (l .ranks) (memoryIn l w)
 
 -- what a store does to the memory, and that it does nothing else

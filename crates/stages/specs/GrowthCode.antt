@@ -13,7 +13,8 @@ use Rattle.links.specs.Graph.{row, load, SoundLists}
 use Rattle.stages.specs.Level.{Ready, offsetsAt, neighborsAt, rowsAt, weightsAt, ownersAt}
 use Rattle.stages.specs.Seeds.{farthestSeeds}
 use Rattle.stages.specs.Growth.{Growing, Turn, Round, Growth, turn, round, rounds, isPass, afterTurn, seedOwners, grown, weightedMultisource, restartCount}
-use Rattle.stages.specs.FrontierCode.{GrowthLaid, Outside, rowsIn, weightsIn, memoryIn, opens, higher, Sought, frontOf, Stands, GrowthReady, kindOf}
+use Rattle.stages.specs.Coarsen.{byDegree}
+use Rattle.stages.specs.FrontierCode.{GrowthLaid, Outside, rowsIn, weightsIn, orderIn, memoryIn, vacantIn, opens, higher, Sought, frontOf, Stands, GrowthReady, kindOf}
 use Rattle.stages.specs.declared.level.HierarchyLevel.{HierarchyLevel}
 use Rattle.stages.specs.declared.growth.GrowthRoom.{GrowthRoom}
 use Rattle.stages.specs.declared.growth.Grown.{Grown}
@@ -52,11 +53,18 @@ SoughtIn cap l w r h p n =
 abbrev pub restartIn : ℕ → GrowthRoom → List ℕ → ℕ → Option ℕ
 restartIn cap l w r = best (higher (rowsIn l w)) (filter (openNow cap l w r) (range 0 (l .level .vertices)))
 
+-- no group before a rank's cursor in the order is open to it, nor will be: owned groups stay owned, and loads only grow
+pub record Behind (cap : ℕ) (l : GrowthRoom) (w cursors : List ℕ) : Type 0 where
+  pub all : length cursors ≡ 256
+  pub inside : (d : ℕ) → d < l .ranks → at cursors d ≤ l .level .vertices
+  pub closed : (d i : ℕ) → d < l .ranks → i < at cursors d → openIn cap l w w d (at (orderIn l w) i) ≡ false
+
 -- g is the first open candidate of rank r, unassigned where there is none; the place in its chain is there, or at the end
 pub record Advanced (l : GrowthRoom) (cap : ℕ) (w w′ : List ℕ) (r g : ℕ) : Type 0 where
   pub outside : Outside l w w′
   pub ready : GrowthReady l w′
   pub stands : (s : Growing) → StandsIn cap l w w s → StandsIn cap l w w′ s
+  pub owners-are : memoryIn l w′ .owners ≡ memoryIn l w .owners
   pub found
       : ((g ≡ unassigned) × (filter (openIn cap l w w′ r) (frontOf (rowsIn l w) (memoryIn l w′) r) ≡ []))
       ⊎ ((xs : List ℕ) × (filter (openIn cap l w w′ r) (frontOf (rowsIn l w) (memoryIn l w′) r) ≡ g ∷ xs) × (openIn cap l w w′ r g ≡ true))
@@ -75,6 +83,7 @@ pub record TurnMade (l : GrowthRoom) (cap : ℕ) (w w′ : List ℕ) (r x : ℕ)
   pub ready : GrowthReady l w′
   pub kind : (s : Growing) → StandsIn cap l w w s → x ≡ kindOf (turn cap (rowsIn l w) (weightsIn l w) s r .turn .choice)
   pub stands : (s : Growing) → StandsIn cap l w w s → StandsIn cap l w w′ (turn cap (rowsIn l w) (weightsIn l w) s r .state)
+  pub vacant : cond (eqb x 0) 0 1 + vacantIn (memoryIn l w′ .owners) ≡ vacantIn (memoryIn l w .owners)
 
 -- ---- rounds
 
@@ -95,6 +104,7 @@ pub record Rounded (l : GrowthRoom) (cap : ℕ) (w w′ : List ℕ) (i claims re
   pub claims-are : (s : Growing) → StandsIn cap l w w s → claims ≡ claimCount (turnsOf cap l w i s .turns)
   pub restarts-are : (s : Growing) → StandsIn cap l w w s → restarts ≡ restartCount (turnsOf cap l w i s .turns)
   pub stands : (s : Growing) → StandsIn cap l w w s → StandsIn cap l w w′ (turnsOf cap l w i s .state)
+  pub vacant : claims + vacantIn (memoryIn l w′ .owners) ≡ vacantIn (memoryIn l w .owners)
   pub few : (claims ≤ i) × (restarts ≤ i)
 
 -- a round, if a group is unowned
@@ -110,6 +120,7 @@ pub record More (l : GrowthRoom) (cap : ℕ) (w w′ : List ℕ) (claims restart
   pub claims-are : (s : Growing) → StandsIn cap l w w s → claims ≡ claimCount (nextRound cap (rowsIn l w) (weightsIn l w) (l .ranks) s .turns)
   pub restarts-are : (s : Growing) → StandsIn cap l w w s → restarts ≡ restartCount (nextRound cap (rowsIn l w) (weightsIn l w) (l .ranks) s .turns)
   pub stands : (s : Growing) → StandsIn cap l w w s → StandsIn cap l w w′ (nextRound cap (rowsIn l w) (weightsIn l w) (l .ranks) s .state)
+  pub vacant : claims + vacantIn (memoryIn l w′ .owners) ≡ vacantIn (memoryIn l w .owners)
   pub few : restarts ≤ l .ranks
 
 -- at most f rounds from s
@@ -168,6 +179,7 @@ pub record Sown (l : GrowthRoom) (w : List ℕ) : Type 0 where
   pub laid : GrowthLaid l (length w)
   pub lists : SoundLists (offsetsAt w (l .level)) (neighborsAt w (l .level))
   pub light : sum (weightsIn l w) < 2 ^ 31
+  pub ordered : orderIn l w ≡ byDegree (rowsIn l w)
   pub seeds : Seeds (l .level .vertices) (l .ranks) (seedsIn l w)
 
 -- nobody owns a group yet, and the chains are empty
@@ -201,7 +213,8 @@ pub record Multisource (l : GrowthRoom) (cap : ℕ) (w w′ : List ℕ) (r : Gro
 
 -- ---- the whole stage
 
--- how many numbers it needs from scratch on: n distances, n entries of a queue, k seeds, n links, and five numbers for each rank
+-- how many numbers it needs from scratch on: n distances, whose place the order by degree takes later, n entries of a queue, k seeds, n links, and five
+-- numbers for each rank
 abbrev pub growthNeed : ℕ → ℕ → ℕ
 growthNeed n k = 3 * n + 6 * k
 
@@ -211,6 +224,7 @@ roomAt l scratch k =
     record {
       level = l;
       ranks = k;
+      order = scratch;
       seeds = scratch + 2 * l .vertices;
       links = scratch + 2 * l .vertices + k;
       loads = scratch + 3 * l .vertices + k;
@@ -223,6 +237,7 @@ roomAt l scratch k =
 -- what the stage asks: a level below scratch, and room
 pub record Growable (w : List ℕ) (l : HierarchyLevel) (scratch k : ℕ) : Type 0 where
   pub level : Ready w l scratch
+  pub few-ranks : k ≤ 256
   pub room : scratch + growthNeed (l .vertices) k ≤ length w
 
 -- the growth that rule 5 defines on a level, from rule 4's seeds, and the owners that it ends with

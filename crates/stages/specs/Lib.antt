@@ -1,5 +1,6 @@
 pub mod Level
 pub mod Coarsen
+pub mod Order
 pub mod Seeds
 pub mod Growth
 pub mod Moves

@@ -1,14 +1,15 @@
 -- What the code of rule 6 keeps in the work slice, and what it promises. Assumes nothing.
 use Prim.Native.Nat.{ℕ, _+_, _-_, _≤_, _<_, _*_}
 use mathlib.Core.Path.{_≡_}
-use mathlib.Core.Bool.{cond}
+use mathlib.Core.Bool.{Bool, not, _&&_, cond}
 use mathlib.Core.List.{List}
 use mathlib.Core.Option.{Option, none, some}
 use lib.ListN.{length, set}
 use lib.Dec.{leb, ltb, eqb}
-use Rattle.links.specs.Lists.{at, above, foldl}
+use Rattle.links.specs.Lists.{at, any, above, foldl}
+use Rattle.links.specs.Loads.{Balance}
 use Rattle.links.specs.Parts.{Kept}
-use Rattle.links.specs.Graph.{linksTo, load}
+use Rattle.links.specs.Graph.{row, linksTo, load}
 use Rattle.links.specs.Owners.{fromOwners}
 use Rattle.stages.specs.Level.{rowsAt, weightsAt, ownersAt, Ready, balanceIn}
 use Rattle.stages.specs.Moves.{Step, after, refineByCut}
@@ -69,6 +70,15 @@ pub record Stepped (w w′ : List ℕ) (l : HierarchyLevel) (scratch ranks : ℕ
   pub kept : Kept (l .owners) (scratch + 2 * ranks) w′ w
 
 -- ---- the choice of a target
+
+-- a rank, with its load, tempts a vertex of another: "load plus weight within cap"
+unfoldable pub tempts : (cap weight load home rank : ℕ) → Bool
+tempts cap weight load home rank = not (eqb rank home) && leb (load + weight) cap
+
+-- some neighbor's owner tempts v
+unfoldable pub tempting : Balance → List (List ℕ) → (weights owners : List ℕ) → ℕ → Bool
+tempting b rows weights owners v =
+    any (λ u. tempts (b .cap) (at weights v) (load weights owners (at owners u)) (at owners v) (at owners u)) (row rows v)
 
 -- what a rank with so many neighbors there offers: "neighbours there less neighbours at home", 0 unless "load plus weight within cap"
 unfoldable pub offerOf : (cap weight load there home rank : ℕ) → Offer

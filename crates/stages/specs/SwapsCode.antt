@@ -1,19 +1,19 @@
 -- What the code of rule 7 keeps in the work slice, and what it promises. Assumes nothing.
 use Prim.Native.Nat.{ℕ, suc, _+_, _-_, _*_, _≤_, _<_, _^_}
 use mathlib.Core.Path.{_≡_}
-use mathlib.Core.Bool.{not, _&&_, cond}
+use mathlib.Core.Bool.{Bool, not, _&&_, cond}
 use mathlib.Core.List.{List, [], _∷_}
 use mathlib.Core.Logic.{_⊎_}
 use lib.Dec.{ltb, eqb}
 use lib.ListN.{length, take, set}
-use Rattle.links.specs.Lists.{at, insert, foldl, elem, range, concatMap}
+use Rattle.links.specs.Lists.{at, any, insert, foldl, elem, range, concatMap}
 use Rattle.links.specs.Parts.{part, Kept}
-use Rattle.links.specs.Graph.{linksIn, linksTo}
+use Rattle.links.specs.Graph.{row, linksIn, linksTo}
 use Rattle.stages.specs.Level.{offsetsAt, neighborsAt, rowsAt, weightsAt, ownersAt, Ready, balanceIn}
 use Rattle.stages.specs.Moves.{Step, move, swap, after}
 use Rattle.stages.specs.Swaps.{Candidate, Proposal, ahead, sooner, propose, proposals, candidates, swapPass, allProposals, refineFinePairSwaps}
 use Rattle.stages.specs.MovesCode.{Ranked, Clear, Loaded}
-use Rattle.stages.specs.Slots.{candidate, slots}
+use Rattle.stages.specs.Slots.{candidate, slots, Sorted}
 use Rattle.stages.specs.declared.level.HierarchyLevel.{HierarchyLevel}
 use Rattle.stages.specs.declared.level.Limits.{Limits}
 use Rattle.stages.specs.declared.slots.Member.{Member}
@@ -49,6 +49,15 @@ Marked w s used = (v : ℕ) → v < s .level .vertices → eqb (at w (s .used + 
 
 -- ---- listing
 
+-- every list is sorted
+abbrev pub AllSorted : List ℕ → SwapRoom → Type 0
+AllSorted w s =
+    (a b : ℕ) → a < s .limits .ranks → b < s .limits .ranks → Sorted candidate ahead 8 (part w (listPlace s a b) (listPlace s a b + 24))
+
+-- v has a neighbor of another rank
+unfoldable pub bordering : List (List ℕ) → List ℕ → ℕ → Bool
+bordering rows owners v = any (λ u. not (eqb (at owners u) (at owners v))) (row rows v)
+
 -- v's turn to be listed for ranks a and b
 unfoldable pub offerVertex : ℕ → List (List ℕ) → List ℕ → ℕ → ℕ → List Candidate → ℕ → List Candidate
 offerVertex n rows owners a b list v =
@@ -60,6 +69,7 @@ offerVertex n rows owners a b list v =
 -- one list is offered a candidate
 pub record Offered (w w′ : List ℕ) (a : ℕ) (x : Candidate) : Type 0 where
   pub here : slots candidate 8 (part w′ a (a + 24)) ≡ take 8 (insert ahead x (slots candidate 8 (part w a (a + 24))))
+  pub sorted : Sorted candidate ahead 8 (part w′ a (a + 24))
   pub kept : Kept a (a + 24) w′ w
 
 -- rank b is still to be met among v's neighbors, of which those from i up to e are left; or v was offered to it
@@ -81,6 +91,7 @@ pub record Offering (w₀ w : List ℕ) (s : SwapRoom) (a v i e : ℕ) : Type 0 
 -- entry i of the neighbors had its turn
 pub record OfferedEntry (w w′ : List ℕ) (s : SwapRoom) (a v i : ℕ) : Type 0 where
   pub kept : Kept (s .tallies) (length w) w′ w
+  pub sorted : AllSorted w′ s
   pub turn
       : (w₀ : List ℕ)
       → Given w₀ s
@@ -94,6 +105,7 @@ pub record OfferedEntry (w w′ : List ℕ) (s : SwapRoom) (a v i : ℕ) : Type 
 pub record Listed (w w′ : List ℕ) (s : SwapRoom) (v : ℕ) : Type 0 where
   pub kept : Kept (s .tallies) (length w) w′ w
   pub clear : Clear w′ (s .tallies) (s .limits .ranks)
+  pub sorted : AllSorted w′ s
   pub lists
       : (a b : ℕ)
       → a < s .limits .ranks

@@ -1,22 +1,22 @@
 // Rule 5: growth. A rank's frontier is a chain of the groups that it claimed, with a place in the first one's row.
 use super::level::HierarchyLevel;
+use super::order::order_by_degree;
 use super::seeds::farthest_seeds;
 use links::fill_part;
 use links::index;
 use links::store;
 use links::wide;
 ghost use mathlib.Core.Path.{_≡_};
-ghost use mathlib.Core.Logic.{_⊎_};
 ghost use mathlib.Core.Bool.{true, cond};
 ghost use Prim.Native.Nat.{_+_, _-_, _*_, _≤_, _<_, _^_};
 ghost use lib.ListN.{length};
 ghost use lib.Dec.{eqb};
-ghost use Rattle.links.specs.Lists.{at, unassigned, filter, range, best};
-ghost use Rattle.links.specs.Best.{held, stepBest};
+ghost use Rattle.links.specs.Lists.{at, unassigned, All};
+ghost use Rattle.links.specs.Best.{held};
 ghost use Rattle.links.specs.Graph.{row, degree, rowsOf, vertexCount, load, SoundLists};
 ghost use Rattle.stages.specs.Level.{weightsAt};
-ghost use Rattle.stages.specs.FrontierCode.{opens, higher, stopsAt, Onward, Chain, Sought, candidateAt, Lent, rowsIn, weightsIn, memoryIn, GrowthLaid, parked, owning, begun, appended, GrowthReady, Stored};
-ghost use Rattle.stages.specs.GrowthCode.{openIn, SoughtIn, restartIn, Advanced, Claimed, TurnMade, Rounded, vacancy, More, GrownTo, Sown, Blank, Cleared, Seated, Multisource, tooHeavy, roomAt, Growable, GrownTold};
+ghost use Rattle.stages.specs.FrontierCode.{opens, stopsAt, Onward, Chain, Sought, FirstOpen, candidateAt, Lent, rowsIn, weightsIn, orderIn, memoryIn, vacantIn, GrowthLaid, parked, owning, begun, appended, GrowthReady, Stored};
+ghost use Rattle.stages.specs.GrowthCode.{openIn, openNow, SoughtIn, restartIn, Behind, Advanced, Claimed, TurnMade, Rounded, More, GrownTo, Sown, Blank, Cleared, Seated, Multisource, tooHeavy, roomAt, Growable, GrownTold};
 
 const UNASSIGNED: u32 = 4294967295;
 
@@ -168,70 +168,34 @@ fn candidate(offsets: &[u32], neighbors: &[u32], here: Cursor) -> u32
     neighbor(offsets, neighbors, here.head, here.place)
 }
 
-// The better of the best so far and group g.
-fn better(
-    offsets: &[u32],
-    neighbors: &[u32],
+// The place of the first group of the order, at or after `from`, that is open; the order's end where none is.
+fn first_open(
+    order: &[u32],
     weights: &[u32],
     owners: &[u32],
     load: u32,
     cap: u64,
-    best: u32,
-    g: u32,
-) -> u32
-    requires { ⌜ Lent (now offsets) (now neighbors) (now weights) (now owners) × (g < vertexCount (now offsets)) × ((best ≡ unassigned) ⊎ (best < vertexCount (now offsets))) ⌝ }
-    ensures { λ r. ⌜ r ≡ stepBest (higher (rowsOf (now (offsets .entry)) (now (neighbors .entry)))) (opens cap (now (weights .entry)) (now (owners .entry)) load) best g ⌝ }
+    from: usize,
+) -> usize
+    requires { ⌜ All (λ g. (g < length (now weights)) × (g < length (now owners))) (now order) × (from ≤ length (now order)) ⌝ }
+    ensures { λ p. ⌜ FirstOpen (opens cap (now (weights .entry)) (now (owners .entry)) load) (now (order .entry)) from p ⌝ }
 {
-    if is_open(weights, owners, load, cap, g) {
-        if best == UNASSIGNED {
-            return g;
+    let mut p = from;
+    while p < order.len() {
+        if is_open(weights, owners, load, cap, order[p]) {
+            return p;
         }
-        if degree_of(offsets, neighbors, best) < degree_of(offsets, neighbors, g) {
-            g
-        } else {
-            best
-        }
-    } else {
-        best
+        p += 1;
     }
+    p
 }
 
-// The group that is open, of highest degree, then lowest number; UNASSIGNED where none is open.
-fn restart(
-    offsets: &[u32],
-    neighbors: &[u32],
-    weights: &[u32],
-    owners: &[u32],
-    load: u32,
-    cap: u64,
-) -> u32
-    requires { ⌜ Lent (now offsets) (now neighbors) (now weights) (now owners) ⌝ }
-    ensures { λ r. ⌜ held r ≡ best (higher (rowsOf (now (offsets .entry)) (now (neighbors .entry)))) (filter (opens cap (now (weights .entry)) (now (owners .entry)) load) (range 0 (vertexCount (now (offsets .entry))))) ⌝ }
-{
-    let mut best: u32 = UNASSIGNED;
-    let n = offsets.len() - 1;
-    let mut g: usize = 0;
-    while g < n {
-        best = better(
-            offsets,
-            neighbors,
-            weights,
-            owners,
-            load,
-            cap,
-            best,
-            g as u32,
-        );
-        g += 1;
-    }
-    best
-}
-
-// Where a growth lies in the work slice: the level; the ranks' seeds; a link of a chain for each group; then, for each rank, its load, and its
+// Where a growth lies in the work slice: the level; its order by degree; the ranks' seeds; a link of a chain for each group; then, for each rank, its load, and its
 // chain's head, tail, place in the head's row, and number of entries.
 pub struct GrowthRoom {
     pub level: HierarchyLevel,
     pub ranks: usize,
+    pub order: usize,
     pub seeds: usize,
     pub links: usize,
     pub loads: usize,
@@ -350,28 +314,39 @@ fn found(w: &[u32], room: GrowthRoom, c: Cursor) -> u32
     )
 }
 
-// The group that rank r would restart from.
-fn restart_for(w: &[u32], room: GrowthRoom, cap: u64, r: usize) -> u32
-    requires { ⌜ GrowthReady room (now w) × (r < room .ranks) ⌝ }
-    ensures { λ g. ⌜ held g ≡ restartIn cap room (now (w .entry)) r ⌝ }
+// The place in the order, at or after `from`, of the first group that is open to rank r; the order's end where none is.
+fn open_from(w: &[u32], room: GrowthRoom, cap: u64, r: usize, from: usize) -> usize
+    requires { ⌜ GrowthReady room (now w) × (r < room .ranks) × (from ≤ room .level .vertices) ⌝ }
+    ensures { λ p. ⌜ FirstOpen (openNow cap room (now (w .entry)) r) (orderIn room (now (w .entry))) from p ⌝ }
 {
     let l = room.level;
     let n = l.vertices;
-    let m = l.entries;
-    let offsets = l.offsets;
-    let neighbors = l.neighbors;
+    let order = room.order;
     let weights = l.weights;
     let owners = l.owners;
     let loads = room.loads;
     let load = w[loads + r];
-    restart(
-        &w[offsets..offsets + (n + 1)],
-        &w[neighbors..neighbors + m],
+    first_open(
+        &w[order..order + n],
         &w[weights..weights + n],
         &w[owners..owners + n],
         load,
         cap,
+        from,
     )
+}
+
+// The group that rank r would restart from, UNASSIGNED where there is none. The search begins at the rank's cursor in the order, and takes it along.
+fn restart_for(w: &[u32], room: GrowthRoom, cap: u64, cursors: &mut [u32; 256], r: usize) -> u32
+    requires { ⌜ GrowthReady room (now w) × (r < room .ranks) × Behind cap room (now w) (now cursors) ⌝ }
+    ensures { λ g. ⌜ (held g ≡ restartIn cap room (now (w .entry)) r) × Behind cap room (now (w .entry)) (now (cursors .exit)) ⌝ }
+{
+    let l = room.level;
+    let n = l.vertices;
+    let order = room.order;
+    let p = open_from(w, room, cap, r, index(cursors[r]));
+    cursors[r] = p as u32;
+    if p < n { w[order + p] } else { UNASSIGNED }
 }
 
 // Rank r's frontier is brought to its first open candidate: that candidate, UNASSIGNED if there is none.
@@ -400,16 +375,16 @@ fn claim(work: &mut [u32], room: GrowthRoom, cap: u64, r: usize, g: u32)
 }
 
 // A rank's turn: 0 for a pass, 1 for a claim of its frontier, 2 for a restart.
-fn turn(work: &mut [u32], room: GrowthRoom, cap: u64, r: usize) -> u32
-    requires { ⌜ GrowthReady room (now work) × (r < room .ranks) ⌝ }
-    ensures { λ x. ⌜ TurnMade room cap (now (work .entry)) (now (work .exit)) r x ⌝ }
+fn turn(work: &mut [u32], room: GrowthRoom, cap: u64, cursors: &mut [u32; 256], r: usize) -> u32
+    requires { ⌜ GrowthReady room (now work) × (r < room .ranks) × Behind cap room (now work) (now cursors) ⌝ }
+    ensures { λ x. ⌜ TurnMade room cap (now (work .entry)) (now (work .exit)) r x × Behind cap room (now (work .exit)) (now (cursors .exit)) ⌝ }
 {
     let g = advance(work, room, cap, r);
     if g != UNASSIGNED {
         claim(work, room, cap, r, g);
         return 1;
     }
-    let f = restart_for(&work[..], room, cap, r);
+    let f = restart_for(&work[..], room, cap, cursors, r);
     if f != UNASSIGNED {
         claim(work, room, cap, r, f);
         return 2;
@@ -438,16 +413,17 @@ fn restart_of(x: u32) -> u64
 }
 
 // The ranks take their turns.
-fn round(work: &mut [u32], room: GrowthRoom, cap: u64) -> Tally
-    requires { ⌜ GrowthReady room (now work) ⌝ }
-    ensures { λ t. ⌜ Rounded room cap (now (work .entry)) (now (work .exit)) (room .ranks) (t .claims) (t .restarts) ⌝ }
+fn round(work: &mut [u32], room: GrowthRoom, cap: u64, cursors: &mut [u32; 256]) -> Tally
+    requires { ⌜ GrowthReady room (now work) × Behind cap room (now work) (now cursors) ⌝ }
+    ensures { λ t. ⌜ Rounded room cap (now (work .entry)) (now (work .exit)) (room .ranks) (t .claims) (t .restarts)
+        × Behind cap room (now (work .exit)) (now (cursors .exit)) ⌝ }
 {
     let k = room.ranks;
     let mut claims: u64 = 0;
     let mut restarts: u64 = 0;
     let mut r: usize = 0;
     while r < k {
-        let x = turn(work, room, cap, r);
+        let x = turn(work, room, cap, cursors, r);
         claims += claim_of(x);
         restarts += restart_of(x);
         r += 1;
@@ -455,42 +431,44 @@ fn round(work: &mut [u32], room: GrowthRoom, cap: u64) -> Tally
     Tally { claims, restarts }
 }
 
-// Is a group unowned?
-fn any_vacant(owners: &[u32]) -> bool
-    ensures { λ r. ⌜ r ≡ vacancy (now (owners .entry)) ⌝ }
+// How many groups nobody owns.
+fn count_vacant(owners: &[u32]) -> u64
+    ensures { λ r. ⌜ r ≡ vacantIn (now (owners .entry)) ⌝ }
 {
+    let mut count: u64 = 0;
     let mut i: usize = 0;
     while i < owners.len() {
         if owners[i] == UNASSIGNED {
-            return true;
+            count += 1;
         }
         i += 1;
     }
-    false
+    count
 }
 
-fn vacant_in(w: &[u32], room: GrowthRoom) -> bool
+fn vacant_in(w: &[u32], room: GrowthRoom) -> u64
     requires { ⌜ GrowthLaid room (length (now w)) ⌝ }
-    ensures { λ r. ⌜ r ≡ vacancy (memoryIn room (now (w .entry)) .owners) ⌝ }
+    ensures { λ r. ⌜ r ≡ vacantIn (memoryIn room (now (w .entry)) .owners) ⌝ }
 {
     let l = room.level;
     let owners = l.owners;
     let n = l.vertices;
-    any_vacant(&w[owners..owners + n])
+    count_vacant(&w[owners..owners + n])
 }
 
-// A round, if a group is unowned.
-fn more(work: &mut [u32], room: GrowthRoom, cap: u64) -> Tally
-    requires { ⌜ GrowthReady room (now work) ⌝ }
-    ensures { λ t. ⌜ More room cap (now (work .entry)) (now (work .exit)) (t .claims) (t .restarts) ⌝ }
+// A round, if a group is left that nobody owns.
+fn more(work: &mut [u32], room: GrowthRoom, cap: u64, cursors: &mut [u32; 256], left: u64) -> Tally
+    requires { ⌜ GrowthReady room (now work) × Behind cap room (now work) (now cursors) × (left ≡ vacantIn (memoryIn room (now work) .owners)) ⌝ }
+    ensures { λ t. ⌜ More room cap (now (work .entry)) (now (work .exit)) (t .claims) (t .restarts)
+        × Behind cap room (now (work .exit)) (now (cursors .exit)) ⌝ }
 {
-    if vacant_in(&work[..], room) {
-        return round(work, room, cap);
+    if left == 0 {
+        return Tally {
+            claims: 0,
+            restarts: 0,
+        };
     }
-    Tally {
-        claims: 0,
-        restarts: 0,
-    }
+    round(work, room, cap, cursors)
 }
 
 // A round without a claim is the last.
@@ -514,14 +492,17 @@ fn grow(work: &mut [u32], room: GrowthRoom, cap: u64) -> Grown
 {
     let l = room.level;
     let n = l.vertices;
+    let mut cursors = [0u32; 256];
+    let mut left = vacant_in(&work[..], room);
     let mut restarts: u64 = 0;
     let mut i: usize = 0;
     while i < n {
-        let t = more(work, room, cap);
+        let t = more(work, room, cap, &mut cursors, left);
         restarts += t.restarts;
+        left -= t.claims;
         i = next_round(i, n, t.claims);
     }
-    if vacant_in(&work[..], room) {
+    if 0 < left {
         return Grown::Refused(8);
     }
     Grown::Owned(restarts)
@@ -608,6 +589,7 @@ fn room_at(l: HierarchyLevel, scratch: usize, ranks: usize) -> GrowthRoom
     GrowthRoom {
         level: l,
         ranks,
+        order: scratch,
         seeds: scratch + 2 * n,
         links: scratch + 2 * n + ranks,
         loads: chains + ranks,
@@ -637,5 +619,6 @@ pub fn weighted_multisource_partition(
         return Grown::Refused(7);
     }
     farthest_seeds(work, l, scratch, ranks);
+    order_by_degree(work, l, scratch);
     multisource(work, room_at(l, scratch, ranks), cap)
 }

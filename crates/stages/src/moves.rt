@@ -10,7 +10,7 @@ ghost use Rattle.links.specs.Graph.{vertices};
 ghost use Rattle.links.specs.Owners.{AssignmentTold};
 ghost use Rattle.stages.specs.Level.{offsetsAt, neighborsAt, rowsAt, weightsAt, ownersAt, Ready, balanceIn};
 ghost use Rattle.stages.specs.Moves.{mayLeave, target, movePass};
-ghost use Rattle.stages.specs.MovesCode.{Roomed, Clear, Loaded, Tallied, Weighed, Moving, Shifted, Stepped, offerOf, betterOffer, offered, movesAt, Refinable, RefinedByCut};
+ghost use Rattle.stages.specs.MovesCode.{Roomed, Clear, Loaded, Tallied, Weighed, Moving, Shifted, Stepped, tempts, tempting, offerOf, betterOffer, offered, movesAt, Refinable, RefinedByCut};
 use super::level::HierarchyLevel;
 use super::level::Limits;
 use links::Assignment;
@@ -120,6 +120,35 @@ pub fn weigh(work: &mut [u32], l: HierarchyLevel, loads: usize, ranks: usize)
     }
 }
 
+// Whether a rank other than a vertex's own has room for its weight.
+fn tempts(cap: u64, weight: u32, load: u32, home: usize, rank: usize) -> bool
+    ensures { λ r. ⌜ r ≡ tempts cap weight load home rank ⌝ }
+{
+    if rank == home {
+        return false;
+    }
+    wide(load) + wide(weight) <= cap
+}
+
+// Whether v has a neighbor of another rank that has room for it. If not, it has no target, and nothing need be counted.
+fn tempted(work: &[u32], l: HierarchyLevel, scratch: usize, limits: Limits, v: usize) -> bool
+    requires { ⌜ Weighed (now work) l scratch (limits .ranks) × (v < l .vertices) ⌝ }
+    ensures { λ r. ⌜ r ≡ tempting (balanceIn limits) (rowsAt (now (work .entry)) l) (weightsAt (now (work .entry)) l) (ownersAt (now (work .entry)) l) v ⌝ }
+{
+    let weight = weight_in(work, l, v);
+    let home = owner_in(work, l, v);
+    let end = row_start(work, l, v + 1);
+    let mut i = row_start(work, l, v);
+    while i < end {
+        let r = owner_at(work, l, i);
+        if tempts(limits.cap, weight, work[scratch + r], home, r) {
+            return true;
+        }
+        i += 1;
+    }
+    false
+}
+
 // What a rank offers: a move there gains its neighbors there less those at home, if its load has room for the weight.
 fn offer_of(cap: u64, weight: u32, load: u32, there: u32, home: u32, rank: usize) -> Offer
     ensures { λ r. ⌜ r ≡ offerOf cap weight load there home rank ⌝ }
@@ -207,11 +236,14 @@ fn choose(work: &mut [u32], l: HierarchyLevel, scratch: usize, limits: Limits, v
     requires { ⌜ Moving (now work) l scratch (limits .ranks) × (v < l .vertices) ⌝ }
     ensures { λ r. ⌜ (offered r ≡ target (balanceIn limits) (rowsAt (now (work .entry)) l) (weightsAt (now (work .entry)) l) (ownersAt (now (work .entry)) l) v) × (now (work .exit) ≡ now (work .entry)) ⌝ }
 {
-    let tallies = scratch + limits.ranks;
-    tally(work, l, tallies, limits.ranks, v);
-    let best = best_offer(&work[..], l, scratch, limits, v);
-    untally(work, l, tallies, limits.ranks, v);
-    best
+    if tempted(&work[..], l, scratch, limits, v) {
+        let tallies = scratch + limits.ranks;
+        tally(work, l, tallies, limits.ranks, v);
+        let best = best_offer(&work[..], l, scratch, limits, v);
+        untally(work, l, tallies, limits.ranks, v);
+        return best;
+    }
+    Offer { gain: 0, rank: 0 }
 }
 
 // v goes over to a rank.

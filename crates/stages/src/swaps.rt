@@ -5,13 +5,14 @@ ghost use mathlib.Core.List.{List, [], _∷_};
 ghost use Prim.Native.Nat.{ℕ, _+_, _-_, _*_, _≤_, _<_, _^_};
 ghost use lib.ListN.{length};
 ghost use Rattle.links.specs.Lists.{at, All, foldl};
+ghost use Rattle.links.specs.Parts.{part};
 ghost use Rattle.links.specs.Graph.{row, linksIn, linksTo};
 ghost use Rattle.stages.specs.Level.{offsetsAt, neighborsAt, rowsAt, weightsAt, ownersAt, balanceIn};
 ghost use Rattle.stages.specs.Moves.{linked, gain, swap};
-ghost use Rattle.stages.specs.Swaps.{inBalance, applies, proposals, allProposals};
-ghost use Rattle.stages.specs.Slots.{candidate, proposal, slots};
+ghost use Rattle.stages.specs.Swaps.{ahead, inBalance, applies, proposals, allProposals};
+ghost use Rattle.stages.specs.Slots.{candidate, proposal, slots, Sorted};
 ghost use Rattle.stages.specs.MovesCode.{Clear, Tallied};
-ghost use Rattle.stages.specs.SwapsCode.{listPlace, Given, Offered, OfferedEntry, Offering, Listed, Empty, ListedAll, Standing, Marked, candidateOf, Fair, Named, proposed, changed, traded, Tradable, Swapped, Holding, Facing, Taken, rankProposals, passFrom, Stepped, swapsAt, Swappable, RefinedBySwaps};
+ghost use Rattle.stages.specs.SwapsCode.{listPlace, Given, AllSorted, bordering, Offered, OfferedEntry, Offering, Listed, Empty, ListedAll, Standing, Marked, candidateOf, Fair, Named, proposed, changed, traded, Tradable, Swapped, Holding, Facing, Taken, rankProposals, passFrom, Stepped, swapsAt, Swappable, RefinedBySwaps};
 use crate::level::HierarchyLevel;
 use crate::level::Limits;
 use crate::moves::clear;
@@ -73,7 +74,7 @@ fn list_at(s: SwapRoom, a: usize, b: usize) -> usize
 
 // A candidate is offered to the list that begins at a.
 fn offer_part(work: &mut [u32], a: usize, there: u32, home: u32, v: u32)
-    requires { ⌜ (a + 24 ≤ length (now work)) × (0 < there) ⌝ }
+    requires { ⌜ (a + 24 ≤ length (now work)) × (0 < there) × Sorted candidate ahead 8 (part (now work) a (a + 24)) ⌝ }
     ensures { λ _. ⌜ Offered (now (work .entry)) (now (work .exit)) a (candidate there home v) ⌝ }
 {
     offer(&mut work[a..a + 24], 8, there, home, v);
@@ -81,7 +82,8 @@ fn offer_part(work: &mut [u32], a: usize, there: u32, home: u32, v: u32)
 
 // v, of rank a, is offered to the owner of the neighbor at entry i, once: its tally is then 0.
 fn offer_entry(work: &mut [u32], s: SwapRoom, a: usize, v: u32, i: usize)
-    requires { ⌜ Given (now work) s × (a < s .limits .ranks) × (i < s .level .entries) × (at (neighborsAt (now work) (s .level)) i < s .level .vertices) ⌝ }
+    requires { ⌜ Given (now work) s × (a < s .limits .ranks) × (i < s .level .entries) × (at (neighborsAt (now work) (s .level)) i < s .level .vertices)
+        × AllSorted (now work) s ⌝ }
     ensures { λ _. ⌜ OfferedEntry (now (work .entry)) (now (work .exit)) s a v i ⌝ }
 {
     let b = owner_at(&work[..], s.level, i);
@@ -101,9 +103,9 @@ fn offer_entry(work: &mut [u32], s: SwapRoom, a: usize, v: u32, i: usize)
 // v, of rank a, is offered to each other rank among its neighbors' owners.
 fn offer_row(work: &mut [u32], s: SwapRoom, a: usize, v: usize)
     requires { ⌜ Given (now work) s × (v < s .level .vertices) × (a ≡ at (ownersAt (now work) (s .level)) v)
-        × Tallied (now work) (s .level) (s .tallies) (s .limits .ranks) v ⌝ }
+        × Tallied (now work) (s .level) (s .tallies) (s .limits .ranks) v × AllSorted (now work) s ⌝ }
     ensures { λ _. ⌜ Offering (now (work .entry)) (now (work .exit)) s a v (at (offsetsAt (now (work .entry)) (s .level)) (v + 1))
-        (at (offsetsAt (now (work .entry)) (s .level)) (v + 1)) ⌝ }
+        (at (offsetsAt (now (work .entry)) (s .level)) (v + 1)) × AllSorted (now (work .exit)) s ⌝ }
 {
     let end = row_start(&work[..], s.level, v + 1);
     let mut i = row_start(&work[..], s.level, v);
@@ -113,9 +115,9 @@ fn offer_row(work: &mut [u32], s: SwapRoom, a: usize, v: usize)
     }
 }
 
-// v is listed as a candidate. The tallies are 0 before and after.
-fn list_vertex(work: &mut [u32], s: SwapRoom, v: usize)
-    requires { ⌜ Given (now work) s × (v < s .level .vertices) × Clear (now work) (s .tallies) (s .limits .ranks) ⌝ }
+// v is listed as a candidate by its tallies, which are 0 before and after.
+fn list_counted(work: &mut [u32], s: SwapRoom, v: usize)
+    requires { ⌜ Given (now work) s × (v < s .level .vertices) × Clear (now work) (s .tallies) (s .limits .ranks) × AllSorted (now work) s ⌝ }
     ensures { λ _. ⌜ Listed (now (work .entry)) (now (work .exit)) s v ⌝ }
 {
     let a = owner_in(&work[..], s.level, v);
@@ -125,9 +127,36 @@ fn list_vertex(work: &mut [u32], s: SwapRoom, v: usize)
     work[tallies + a] = 0;
 }
 
+// Whether v has a neighbor of another rank.
+fn borders(w: &[u32], s: SwapRoom, v: usize) -> bool
+    requires { ⌜ Given (now w) s × (v < s .level .vertices) ⌝ }
+    ensures { λ r. ⌜ r ≡ bordering (rowsAt (now (w .entry)) (s .level)) (ownersAt (now (w .entry)) (s .level)) v ⌝ }
+{
+    let home = owner_in(w, s.level, v);
+    let end = row_start(w, s.level, v + 1);
+    let mut i = row_start(w, s.level, v);
+    while i < end {
+        if owner_at(w, s.level, i) != home {
+            return true;
+        }
+        i += 1;
+    }
+    false
+}
+
+// v is listed as a candidate, which only a vertex on a border can be.
+fn list_vertex(work: &mut [u32], s: SwapRoom, v: usize)
+    requires { ⌜ Given (now work) s × (v < s .level .vertices) × Clear (now work) (s .tallies) (s .limits .ranks) × AllSorted (now work) s ⌝ }
+    ensures { λ _. ⌜ Listed (now (work .entry)) (now (work .exit)) s v ⌝ }
+{
+    if borders(&work[..], s, v) {
+        list_counted(work, s, v);
+    }
+}
+
 // The candidates of all ordered rank pairs. The lists are empty before.
 fn list_all(work: &mut [u32], s: SwapRoom)
-    requires { ⌜ Given (now work) s × Clear (now work) (s .tallies) (s .limits .ranks) × Empty (now work) s ⌝ }
+    requires { ⌜ Given (now work) s × Clear (now work) (s .tallies) (s .limits .ranks) × Empty (now work) s × AllSorted (now work) s ⌝ }
     ensures { λ _. ⌜ ListedAll (now (work .entry)) (now (work .exit)) s ⌝ }
 {
     let n = s.level.vertices;

@@ -1,34 +1,44 @@
-//! Compares Hipstern, through the archive of crate bridge, with the Rust (crate reference).
+//! Compares Hipstern, through the archives of crates bridge and bridge_stages, with the Rust (crate reference).
 //!
-//!     compare [--seed NUMBER] [--count NUMBER]
+//!     compare [--long] [--seed NUMBER] [--count NUMBER]
 //!
-//! The count is how many random inputs a check draws (20000 if not given). The exit status is 1 where an answer differs.
-mod bridge;
+//! The count is how many random inputs a check draws (20000 if not given, 1000000 with --long). With --long all graphs of five
+//! vertices are divided too, and the largest forced runs. The exit status is 1 where an answer differs.
+mod bridge_stages;
 mod byhand;
 mod division;
+mod levels;
 mod link_file;
 mod links;
 mod report;
+mod stages;
 
+use compare::bridge;
 use report::Report;
 
+fn usage() -> ! {
+    eprintln!("usage: compare [--long] [--seed NUMBER] [--count NUMBER]");
+    std::process::exit(2)
+}
+
 fn main() {
-    let (mut seed, mut count) = (1u64, 20_000u64);
-    let words: Vec<String> = std::env::args().skip(1).collect();
-    for pair in words.chunks(2) {
-        match (pair[0].as_str(), pair.get(1).and_then(|w| w.parse().ok())) {
-            ("--seed", Some(number)) => seed = number,
-            ("--count", Some(number)) => count = number,
-            _ => {
-                eprintln!("usage: compare [--seed NUMBER] [--count NUMBER]");
-                std::process::exit(2);
-            }
+    let (mut seed, mut count, mut long) = (1u64, None, false);
+    let mut words = std::env::args().skip(1);
+    while let Some(word) = words.next() {
+        let mut number = || words.next().and_then(|w| w.parse().ok()).unwrap_or_else(|| usage());
+        match word.as_str() {
+            "--seed" => seed = number(),
+            "--count" => count = Some(number()),
+            "--long" => long = true,
+            _ => usage(),
         }
     }
+    let count = count.unwrap_or(if long { 1_000_000 } else { 20_000 });
     let mut report = Report::default();
     byhand::check(&mut report, seed, count);
     links::compare(&mut report, seed, count);
     link_file::compare(&mut report, seed, count);
-    division::compare(&mut report, seed, count);
+    stages::compare(&mut report, seed, count);
+    division::compare(&mut report, seed, count, long);
     std::process::exit(if report.end() { 0 } else { 1 });
 }

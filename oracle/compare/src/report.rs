@@ -1,4 +1,5 @@
-//! One line a check: how many calls were compared, how often each refusal came, and the first differences.
+//! One line a check: how many calls were compared, how often each refusal came, how many steps were made, and the first
+//! differences.
 use std::collections::BTreeMap;
 use std::fmt::Debug;
 
@@ -14,6 +15,7 @@ pub struct Check {
     calls: u64,
     differences: u64,
     numbers: BTreeMap<u32, u64>,
+    steps: Option<u64>,
 }
 
 impl Check {
@@ -30,6 +32,11 @@ impl Check {
                 println!("    the Rust's {}", cut(format!("{rust:?}")));
             }
         }
+    }
+
+    /// So many steps (moves, swaps, ..) were made in a call: a check that counts them must meet some.
+    pub fn made(&mut self, steps: u64) {
+        *self.steps.get_or_insert(0) += steps;
     }
 
     /// A number and a value beside what the Rust answers; with a refusal goes the value that is nothing.
@@ -59,17 +66,22 @@ impl Check {
 impl Report {
     /// Runs a check and prints its line. Each of `expected` must come among the answers: else the check compares too little.
     pub fn check(&mut self, name: &str, expected: &[u32], body: impl FnOnce(&mut Check)) {
-        let mut check = Check { calls: 0, differences: 0, numbers: BTreeMap::new() };
+        let mut check = Check { calls: 0, differences: 0, numbers: BTreeMap::new(), steps: None };
         body(&mut check);
         let numbers: Vec<_> = check.numbers.iter().map(|(n, times)| format!("{n}: {times}")).collect();
         let verdict = if check.differences == 0 { "equal".into() } else { format!("{} DIFFER", check.differences) };
         let told = if numbers.len() > 1 { format!(" ({})", numbers.join(", ")) } else { String::new() };
-        println!("{name}: {} calls{told}, {verdict}", check.calls);
+        let steps = check.steps.map_or(String::new(), |steps| format!(", {steps} steps"));
+        println!("{name}: {} calls{told}{steps}, {verdict}", check.calls);
         for number in expected {
             if !check.numbers.contains_key(number) {
                 println!("  MISSING: no answer {number} among them");
                 self.silent += 1;
             }
+        }
+        if check.steps == Some(0) {
+            println!("  MISSING: no step was made");
+            self.silent += 1;
         }
         self.checks += 1;
         self.calls += check.calls;

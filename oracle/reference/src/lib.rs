@@ -9,6 +9,7 @@ extern crate self as hybit_matrix;
 extern crate self as rayon;
 
 pub mod answers;
+pub mod forced;
 pub mod link_file;
 pub mod listing;
 pub mod random;

@@ -1,120 +1,80 @@
--- The choice on the parts that are lent for it. Assumes nothing.
-use Rattle.stages.proofs.GrowthSliceLaws.{lent, restart-post}
+-- The search goes on from the cursor, and takes it along. Assumes nothing.
+use native.Mathlib.Omega.{arith}
+use mathlib.Core.Path.{_≡_, sym, ap, _∙_, subst}
+use Prim.Native.Nat.{ℕ}
+use Rattle.links.specs.Lists.{at}
+use Rattle.stages.specs.FrontierCode.{FirstOpen, orderIn}
+use Rattle.stages.specs.GrowthCode.{openNow}
+use Rattle.stages.proofs.GrowthSliceLaws.{order-inside, cursor-behind, restart-there, restart-nowhere}
 use borrow.Author.Needs.{needs}
 use Rattle.stages.proofs.growth.restart_for.Statement.{statement}
 use Rattle.stages.proofs.growth.restart_for.Tie as tie
 
-add-load : tie.Need-add-load
-add-load c = search needs
+mul-index : tie.Need-mul-index
+mul-index c = search needs
 
-mul-load : tie.Need-mul-load
-mul-load c = search needs
+element-copy-out-index : tie.Need-element-copy-out-index
+element-copy-out-index c = omega (arith, c .before .before .pre .1, c .before .before .pre .0 .laid .few-ranks, c .before .before .pre .2 .all)
 
-shared-slice-read-load : tie.Need-shared-slice-read-load
-shared-slice-read-load c = search needs
+index-requires : tie.Need-index-requires
+index-requires c κs = search needs
 
-add-restart : tie.Need-add-restart
-add-restart c = search needs
+open-from-requires : tie.Need-open-from-requires
+open-from-requires c κs =
+    let p = c .before .before .before .before .pre in
+    (p .0, p .1, omega (arith, c .index .ensures, p .2 .inside (c .before .before .before .before .args .r) (p .1)))
 
-add-restart-2 : tie.Need-add-restart-2
-add-restart-2 c = search needs
+cast-cursors : tie.Need-cast-cursors
+cast-cursors c =
+    let a = c .before .before .before .before .before .args in
+    omega (arith, c .open-from .ensures .inside, order-inside (a .cap) (a .r) (c .before .before .before .before .before .pre .0) (c .before .before .before .before .before .pre .1), c .before .before .before .before .before .pre .0 .laid .few)
 
-mul-restart : tie.Need-mul-restart
-mul-restart c = search needs
+mul-cursors : tie.Need-mul-cursors
+mul-cursors c = search needs
 
-sub-restart : tie.Need-sub-restart
-sub-restart c = search needs
+element-write-cursors : tie.Need-element-write-cursors
+element-write-cursors c = omega (arith, c .before .before .before .before .before .pre .1, c .before .before .before .before .before .pre .0 .laid .few-ranks, c .before .before .before .before .before .pre .2 .all)
 
-part-restart-start : tie.Need-part-restart-start
-part-restart-start c = search needs
+add-result : tie.Need-add-result
+add-result c = search needs
 
-part-restart-end : tie.Need-part-restart-end
-part-restart-end c = search needs
+mul-result : tie.Need-mul-result
+mul-result c = search needs
 
-add-restart-3 : tie.Need-add-restart-3
-add-restart-3 c = search needs
-
-mul-restart-2 : tie.Need-mul-restart-2
-mul-restart-2 c = search needs
-
-sub-restart-2 : tie.Need-sub-restart-2
-sub-restart-2 c = search needs
-
-part-restart-start-2 : tie.Need-part-restart-start-2
-part-restart-start-2 c = search needs
-
-part-restart-end-2 : tie.Need-part-restart-end-2
-part-restart-end-2 c = search needs
-
-add-restart-4 : tie.Need-add-restart-4
-add-restart-4 c = search needs
-
-mul-restart-3 : tie.Need-mul-restart-3
-mul-restart-3 c = search needs
-
-sub-restart-3 : tie.Need-sub-restart-3
-sub-restart-3 c = search needs
-
-part-restart-start-3 : tie.Need-part-restart-start-3
-part-restart-start-3 c = search needs
-
-part-restart-end-3 : tie.Need-part-restart-end-3
-part-restart-end-3 c = search needs
-
-add-restart-5 : tie.Need-add-restart-5
-add-restart-5 c = search needs
-
-mul-restart-4 : tie.Need-mul-restart-4
-mul-restart-4 c = search needs
-
-sub-restart-4 : tie.Need-sub-restart-4
-sub-restart-4 c = search needs
-
-part-restart-start-4 : tie.Need-part-restart-start-4
-part-restart-start-4 c = search needs
-
-part-restart-end-4 : tie.Need-part-restart-end-4
-part-restart-end-4 c = search needs
-
-restart-requires : tie.Need-restart-requires
-restart-requires c κs =
-    let a = c .before .before .before .before .before .before .before .args in
-    lent (a .room) (a .w .now) (c .before .before .before .before .before .before .before .pre .0 .laid)
-    (c .before .before .before .before .before .before .before .pre .0 .lists)
+shared-slice-read-result : tie.Need-shared-slice-read-result
+shared-slice-read-result c = search needs
 
 returns : tie.Need-returns
 returns c =
-    let a = c .before .before .before .before .before .before .before .before .args in
-    restart-post (c .before .before .before .before .before .before .before .before .pre .0) (a .r)
-    (c .before .before .before .before .before .before .before .before .pre .1) (a .cap) (c .restart .result) (c .restart .ensures)
+    let a = c .before .before .before .before .before .before .before .args in
+    let p = c .before .before .before .before .before .before .before .pre in
+    let f : FirstOpen (openNow (a .cap) (a .room) (a .w .now) (a .r)) (orderIn (a .room) (a .w .now)) (at (a .cursors .now) (a .r)) (c .before .before .open-from .result) =
+    subst (λ (x : ℕ). FirstOpen (openNow (a .cap) (a .room) (a .w .now) (a .r)) (orderIn (a .room) (a .w .now)) x (c .before .before .open-from .result)) (c .before .before .before .index .ensures)
+    (c .before .before .open-from .ensures) in
+    (restart-there (a .cap) (a .r) (p .0) (p .1) (p .2) f (c .before .if1 .taken), cursor-behind (a .cap) (a .r) (p .0) (p .1) (p .2) f)
+
+returns-2 : tie.Need-returns-2
+returns-2 c =
+    let a = c .before .before .before .before .before .before .args in
+    let p = c .before .before .before .before .before .before .pre in
+    let f : FirstOpen (openNow (a .cap) (a .room) (a .w .now) (a .r)) (orderIn (a .room) (a .w .now)) (at (a .cursors .now) (a .r)) (c .before .open-from .result) =
+    subst (λ (x : ℕ). FirstOpen (openNow (a .cap) (a .room) (a .w .now) (a .r)) (orderIn (a .room) (a .w .now)) x (c .before .open-from .result)) (c .before .before .index .ensures)
+    (c .before .open-from .ensures) in
+    (restart-nowhere (a .cap) (a .r) (p .0) (p .1) (p .2) f (c .if1 .left), cursor-behind (a .cap) (a .r) (p .0) (p .1) (p .2) f)
 
 pub restart-for-spec : {M : Type 1} → statement M
 restart-for-spec =
     tie.close
     (tie.spec
-    add-load
-    mul-load
-    shared-slice-read-load
-    add-restart
-    add-restart-2
-    mul-restart
-    sub-restart
-    part-restart-start
-    part-restart-end
-    add-restart-3
-    mul-restart-2
-    sub-restart-2
-    part-restart-start-2
-    part-restart-end-2
-    add-restart-4
-    mul-restart-3
-    sub-restart-3
-    part-restart-start-3
-    part-restart-end-3
-    add-restart-5
-    mul-restart-4
-    sub-restart-4
-    part-restart-start-4
-    part-restart-end-4
-    restart-requires
-    returns)
+    mul-index
+    element-copy-out-index
+    index-requires
+    open-from-requires
+    cast-cursors
+    mul-cursors
+    element-write-cursors
+    add-result
+    mul-result
+    shared-slice-read-result
+    returns
+    returns-2)

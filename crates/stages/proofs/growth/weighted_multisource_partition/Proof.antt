@@ -3,7 +3,7 @@ use native.Mathlib.Omega.{arith}
 use mathlib.Core.Path.{sym, _∙_, subst}
 use Rattle.stages.specs.GrowthCode.{Sown, Multisource, roomAt}
 use Rattle.stages.specs.declared.growth.GrowthRoom.{GrowthRoom}
-use Rattle.stages.proofs.GrowthStageLaws.{weights-fit, told-heavy, told-few, seedable, sown, told-grown}
+use Rattle.stages.proofs.GrowthStageLaws.{weights-fit, told-heavy, told-few, seedable, orderable, sown, told-grown}
 use borrow.Author.Needs.{needs}
 use Rattle.stages.proofs.growth.weighted_multisource_partition.Statement.{statement}
 use Rattle.stages.proofs.growth.weighted_multisource_partition.Tie as tie
@@ -29,29 +29,29 @@ returns-2 c =
 farthest-seeds-requires : tie.Need-farthest-seeds-requires
 farthest-seeds-requires c κs = seedable (c .before .before .before .before .before .before .pre) (c .before .if2 .left)
 
+order-by-degree-requires : tie.Need-order-by-degree-requires
+order-by-degree-requires c κs = orderable (c .before .before .before .before .before .before .before .before .before .before .pre) (c .before .before .before .before .before .if2 .left) (c .before .before .before .farthest-seeds .ensures)
+
 room-at-requires : tie.Need-room-at-requires
-room-at-requires c κs =
-    omega (arith, c .before .before .before .before .before .before .before .before .before .before .pre .room, c .before .before .before .before .before .before .before .before .before .before .good .0)
+room-at-requires c κs = omega (arith, c .before .before .before .before .before .before .before .before .before .before .before .before .before .before .pre .room, c .before .before .before .before .before .before .before .before .before .before .before .before .before .before .good .0)
 
 multisource-requires : tie.Need-multisource-requires
 multisource-requires c κs =
-    subst (λ (l : GrowthRoom). Sown l (c .before .before .before .before .farthest-seeds .last .0)) (sym (c .room-at .ensures))
-    (sown (c .before .before .before .before .before .before .before .before .before .before .before .pre) (c .before .before .before .before .before .before .if2 .left) (c .before .before .before .before .farthest-seeds .ensures))
+    subst (λ (l : GrowthRoom). Sown l (c .before .before .before .before .order-by-degree .last .0)) (sym (c .room-at .ensures))
+    (sown (c .before .before .before .before .before .before .before .before .before .before .before .before .before .before .before .pre) (c .before .before .before .before .before .before .before .before .before .before .if2 .left) (c .before .before .before .before .before .before .before .before .farthest-seeds .ensures) (c .before .before .before .before .order-by-degree .ensures))
 
 same-length-3 : tie.Need-same-length-3
 same-length-3 c = search needs
 
 returns-3 : tie.Need-returns-3
 returns-3 c =
-    let a = c .before .before .before .before .before .before .before .before .before .before .before .before .before .before .args in
-    let M : Multisource (roomAt (a .l) (a .scratch) (a .ranks)) (a .cap) (c .before .before .before .before .before .before .before .farthest-seeds .last .0) (c .before .before .multisource .last .0) (c .before .before .multisource .result) =
-    subst
-    (λ (l : GrowthRoom). Multisource l (a .cap) (c .before .before .before .before .before .before .before .farthest-seeds .last .0) (c .before .before .multisource .last .0) (c .before .before .multisource .result))
-    (c .before .before .before .room-at .ensures) (c .before .before .multisource .ensures) in
-    told-grown (c .before .before .before .before .before .before .before .before .before .before .before .before .before .before .pre)
-    (c .before .before .before .before .before .before .before .before .before .if2 .left)
-    (c .before .before .before .before .before .before .before .farthest-seeds .ensures) (a .cap)
-    (sym (c .before .before .before .before .before .before .before .before .before .before .before .heavy-in .ensures) ∙ c .before .before .before .before .before .before .before .before .before .before .if1 .left) M
+    let a = c .before .before .before .before .before .before .before .before .before .before .before .before .before .before .before .before .before .before .args in
+    let w = c .before .before .before .before .before .before .before .order-by-degree .last .0 in
+    let m = c .before .before .multisource in
+    let M : Multisource (roomAt (a .l) (a .scratch) (a .ranks)) (a .cap) w (m .last .0) (m .result) =
+    subst (λ (l : GrowthRoom). Multisource l (a .cap) w (m .last .0) (m .result)) (c .before .before .before .room-at .ensures) (m .ensures) in
+    told-grown (c .before .before .before .before .before .before .before .before .before .before .before .before .before .before .before .before .before .before .pre) (c .before .before .before .before .before .before .before .before .before .before .before .before .before .if2 .left) (c .before .before .before .before .before .before .before .before .before .before .before .farthest-seeds .ensures) (c .before .before .before .before .before .before .before .order-by-degree .ensures) (a .cap)
+    (sym (c .before .before .before .before .before .before .before .before .before .before .before .before .before .before .before .heavy-in .ensures) ∙ c .before .before .before .before .before .before .before .before .before .before .before .before .before .before .if1 .left) M
 
 pub weighted-multisource-partition-spec : {M : Type 1} → statement M
 weighted-multisource-partition-spec =
@@ -63,6 +63,7 @@ weighted-multisource-partition-spec =
     same-length-2
     returns-2
     farthest-seeds-requires
+    order-by-degree-requires
     room-at-requires
     multisource-requires
     same-length-3

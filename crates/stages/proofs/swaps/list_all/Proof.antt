@@ -7,7 +7,7 @@ use Rattle.links.specs.Parts.{Kept}
 use Rattle.links.proofs.PartLaws.{kept-refl, kept-trans}
 use Rattle.stages.specs.Level.{rowsAt, ownersAt}
 use Rattle.stages.specs.MovesCode.{Clear}
-use Rattle.stages.specs.SwapsCode.{listAt}
+use Rattle.stages.specs.SwapsCode.{listAt, AllSorted}
 use Rattle.stages.proofs.SwapListLaws.{listed-none, listedTo}
 use Rattle.stages.proofs.ListingLaws.{given-listed, listed-turn, listed-end}
 use Rattle.stages.proofs.swaps.list_all.Statement.{statement}
@@ -17,6 +17,7 @@ abbrev Inv-loop : tie.InvT-loop
 Inv-loop work₀ s n v₀ work v =
     (v ≤ n) × (length work ≡ length work₀) × Kept (s .tallies) (length work₀) work work₀ × Clear work (s .tallies) (s .limits .ranks)
     × ((a b : ℕ) → a < s .limits .ranks → b < s .limits .ranks → (a ≡ b → ⊥) → listAt work s a b ≡ listedTo 8 (rowsAt work₀ (s .level)) (ownersAt work₀ (s .level)) a b v)
+    × AllSorted work s
 
 abbrev μ-loop : tie.MeasureT-loop
 μ-loop work₀ s n v₀ work v = n - v
@@ -29,10 +30,11 @@ loop-holds c =
       kept-refl (a .s .tallies) (length (a .work .now)) (a .work .now),
       c .before .pre .1,
       λ x y p q n. c .before .pre .2 x y p q ∙ sym (listed-none 8 (rowsAt (a .work .now) (a .s .level)) (ownersAt (a .work .now) (a .s .level)) x y),
+      c .before .pre .3,
     )
 
 list-vertex-requires : tie.Need-list-vertex-requires Inv-loop μ-loop
-list-vertex-requires c κs = (given-listed (c .before .before .before .before .pre .0) (c .before .before .loop .inv .2), omega arith, c .before .before .loop .inv .3)
+list-vertex-requires c κs = (given-listed (c .before .before .before .before .pre .0) (c .before .before .loop .inv .2), omega arith, c .before .before .loop .inv .3, c .before .before .loop .inv .5)
 
 add-v : tie.Need-add-v Inv-loop μ-loop
 add-v c = omega arith
@@ -51,6 +53,7 @@ loop-again c =
       kept-trans (a .s .tallies) (length (a .work .now)) (d .last .0) (l .work) (a .work .now) k (l .inv .2),
       d .ensures .clear,
       listed-turn (c .before .before .before .before .before .before .before .pre .0) (l .inv .2) (l .v) (d .last .0) (d .ensures) (l .inv .4),
+      d .ensures .sorted,
     )
 
 same-length : tie.Need-same-length Inv-loop μ-loop

@@ -7,7 +7,7 @@ use borrow.Author.Needs.{needs}
 use Rattle.links.specs.Lists.{at}
 use Rattle.stages.specs.Level.{neighborsAt}
 use Rattle.stages.proofs.SwapsSliceLaws.{whole}
-use Rattle.stages.proofs.ListingLaws.{positive, entry-own, entry-met, entry-new}
+use Rattle.stages.proofs.ListingLaws.{positive, entry-own, entry-met, entry-sorted, entry-new}
 use Rattle.stages.proofs.swaps.offer_entry.Statement.{statement}
 use Rattle.stages.proofs.swaps.offer_entry.Tie as tie
 
@@ -18,7 +18,7 @@ same-length : tie.Need-same-length
 same-length c = search needs
 
 returns : tie.Need-returns
-returns c = entry-own (c .before .owner-at .result) (c .before .owner-at .ensures) (c .if1 .taken)
+returns c = entry-own (c .before .owner-at .result) (c .before .owner-at .ensures) (c .before .before .before .before .pre .4) (c .if1 .taken)
 
 add-there : tie.Need-add-there
 add-there c =
@@ -39,7 +39,7 @@ same-length-2 : tie.Need-same-length-2
 same-length-2 c = search needs
 
 returns-2 : tie.Need-returns-2
-returns-2 c = entry-met (c .before .before .before .owner-at .result) (c .before .before .before .owner-at .ensures) (c .before .before .if1 .left) (c .if2 .taken)
+returns-2 c = entry-met (c .before .before .before .owner-at .result) (c .before .before .before .owner-at .ensures) (c .before .before .before .before .before .before .pre .4) (c .before .before .if1 .left) (c .if2 .taken)
 
 add-home : tie.Need-add-home
 add-home c = search needs
@@ -71,7 +71,15 @@ list-at-requires c κs =
     (c .before .before .before .before .before .before .before .before .pre .1, r, omega (arith, c .before .before .before .before .before .before .before .before .pre .0 .lists-in))
 
 offer-part-requires : tie.Need-offer-part-requires
-offer-part-requires c κs = (simp length-set (omega (arith, c .list-at .ensures .1)), positive _ (c .before .before .before .if2 .left))
+offer-part-requires c κs =
+    let a = c .before .before .before .before .before .before .before .before .before .args in
+    let p = c .before .before .before .before .before .before .before .before .before .pre in
+    let o = c .before .before .before .before .before .before .owner-at in
+    let r : o .result < a .s .limits .ranks = rw (o .ensures) (p .0 .ranked (at (neighborsAt (a .work .now) (a .s .level)) (a .i)) (p .3)) in (
+      simp length-set (omega (arith, c .list-at .ensures .1)),
+      positive _ (c .before .before .before .if2 .left),
+      entry-sorted (a .a) (o .result) (p .0) (p .1) r (p .4) (c .list-at .result) (c .list-at .ensures .0),
+    )
 
 same-length-3 : tie.Need-same-length-3
 same-length-3 c = c .before .before .offer-part .ensures .kept .same-length ∙ length-set (c .before .before .before .before .before .before .before .before .before .before .before .before .args .work .now) (c .before .before .before .before .before .before .before .before .before .before .before .before .args .s .tallies + c .before .before .before .before .before .before .before .before .before .owner-at .result) 0
@@ -80,7 +88,7 @@ returns-3 : tie.Need-returns-3
 returns-3 c =
     let a = c .before .before .before .before .before .before .before .before .before .before .before .before .args in
     let r : c .before .before .before .before .before .before .before .before .before .owner-at .result < a .s .limits .ranks = rw (c .before .before .before .before .before .before .before .before .before .owner-at .ensures) (c .before .before .before .before .before .before .before .before .before .before .before .before .pre .0 .ranked (at (neighborsAt (a .work .now) (a .s .level)) (a .i)) (c .before .before .before .before .before .before .before .before .before .before .before .before .pre .3)) in
-    entry-new (c .before .before .before .before .before .before .before .before .before .owner-at .result) (c .before .before .before .before .before .before .before .before .before .owner-at .ensures) (c .before .before .before .before .before .before .before .before .before .before .before .before .pre .0) (c .before .before .before .before .before .before .before .before .before .before .before .before .pre .1) r (c .before .before .before .before .before .before .before .before .if1 .left) (c .before .before .before .before .before .before .if2 .left) (c .before .before .offer-part .last .0) (c .before .before .before .list-at .result) (c .before .before .before .list-at .ensures .0) (c .before .before .offer-part .ensures)
+    entry-new (c .before .before .before .before .before .before .before .before .before .owner-at .result) (c .before .before .before .before .before .before .before .before .before .owner-at .ensures) (c .before .before .before .before .before .before .before .before .before .before .before .before .pre .0) (c .before .before .before .before .before .before .before .before .before .before .before .before .pre .4) (c .before .before .before .before .before .before .before .before .before .before .before .before .pre .1) r (c .before .before .before .before .before .before .before .before .if1 .left) (c .before .before .before .before .before .before .if2 .left) (c .before .before .offer-part .last .0) (c .before .before .before .list-at .result) (c .before .before .before .list-at .ensures .0) (c .before .before .offer-part .ensures)
 
 pub offer-entry-spec : {M : Type 1} → statement M
 offer-entry-spec =

@@ -22,7 +22,7 @@ part-offer-end : tie.Need-part-offer-end
 part-offer-end c = search needs
 
 offer-requires : tie.Need-offer-requires
-offer-requires c κs = search needs
+offer-requires c κs = let p = c .before .before .pre in (search needs, omega arith, p .1, p .2)
 
 same-length : tie.Need-same-length
 same-length c = search needs
@@ -30,7 +30,7 @@ same-length c = search needs
 returns : tie.Need-returns
 returns c =
     let a = c .before .before .before .before .before .args in
-    offered-part (a .work .now) (c .before .before .offer .last .0) (a .a) (candidate (a .there) (a .home) (a .v)) (c .before .before .before .before .before .pre .0) (omega (arith, c .before .before .offer .kept)) (c .before .before .offer .ensures)
+    offered-part (a .work .now) (c .before .before .offer .last .0) (a .a) (candidate (a .there) (a .home) (a .v)) (c .before .before .before .before .before .pre .0) (omega (arith, c .before .before .offer .kept)) (c .before .before .offer .ensures .0) (c .before .before .offer .ensures .1)
 
 pub offer-part-spec : {M : Type 1} → statement M
 offer-part-spec =

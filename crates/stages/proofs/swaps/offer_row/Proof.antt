@@ -6,7 +6,7 @@ use lib.ListN.{length}
 use borrow.Author.Needs.{needs}
 use Rattle.links.specs.Lists.{at}
 use Rattle.stages.specs.Level.{offsetsAt}
-use Rattle.stages.specs.SwapsCode.{Offering}
+use Rattle.stages.specs.SwapsCode.{Offering, AllSorted}
 use Rattle.stages.proofs.MovesSliceLaws.{neighbors-kept, row-rises, row-ends, entry-below}
 use Rattle.stages.proofs.SwapsSliceLaws.{whole}
 use Rattle.stages.proofs.ListingLaws.{given-kept, offering-start}
@@ -14,7 +14,7 @@ use Rattle.stages.proofs.swaps.offer_row.Statement.{statement}
 use Rattle.stages.proofs.swaps.offer_row.Tie as tie
 
 abbrev Inv-loop : tie.InvT-loop
-Inv-loop work₀ s a v end i₀ work i = (i₀ ≤ i) × (i ≤ end) × (length work ≡ length work₀) × Offering work₀ work s a v i end
+Inv-loop work₀ s a v end i₀ work i = (i₀ ≤ i) × (i ≤ end) × (length work ≡ length work₀) × Offering work₀ work s a v i end × AllSorted work s
 
 abbrev μ-loop : tie.MeasureT-loop
 μ-loop work₀ s a v end i₀ work i = end - i
@@ -36,6 +36,7 @@ loop-holds c =
       omega (arith, row-rises (p .0 .ready) (a .v) (p .1), c .row-start2 .ensures, c .before .before .row-start .ensures),
       refl,
       rw (c .row-start2 .ensures, c .before .before .row-start .ensures) (offering-start (p .0) (p .1) (p .2) (p .3)),
+      p .4,
     )
 
 cast-offer-entry : tie.Need-cast-offer-entry Inv-loop μ-loop
@@ -53,6 +54,7 @@ offer-entry-requires c κs =
       omega (arith, c .before .before .before .before .before .row-start .ensures),
       rw (neighbors-kept (p .0 .ready) k (omega (arith, p .0 .used-in, p .0 .loads-in, p .0 .ready .laid .owners-in)))
           (entry-below (p .0 .ready) (a .v) (p .1) (l .i) (omega (arith, c .before .before .before .row-start2 .ensures)) (omega (arith, c .before .before .before .before .before .row-start .ensures))),
+      l .inv .4,
     )
 
 add-i : tie.Need-add-i Inv-loop μ-loop
@@ -72,6 +74,7 @@ loop-again c =
       omega arith,
       c .before .before .offer-entry .ensures .kept .same-length ∙ l .inv .2,
       rw e (c .before .before .offer-entry .ensures .turn (a .work .now) (p .0) (p .1) (p .2) (omega (arith, e)) o),
+      c .before .before .offer-entry .ensures .sorted,
     )
 
 same-length : tie.Need-same-length Inv-loop μ-loop
@@ -83,7 +86,7 @@ returns c =
     let l = c .before .loop in
     let e = c .before .before .before .before .row-start .ensures in
     let i : l .i ≡ c .before .before .before .before .row-start .result = omega arith in
-    subst (λ (z : ℕ). Offering (a .work .now) (l .work) (a .s) (a .a) (a .v) z z) e (rw i at (l .inv .3))
+    (subst (λ (z : ℕ). Offering (a .work .now) (l .work) (a .s) (a .a) (a .v) z z) e (rw i at (l .inv .3)), l .inv .4)
 
 pub offer-row-spec : {M : Type 1} → statement M
 offer-row-spec =

@@ -1,7 +1,7 @@
 -- Flags and lists are cleared, all vertices listed, and the proposals taken. Assumes nothing.
 use borrow.Author.Needs.{needs}
 use Rattle.stages.specs.Level.{ownersAt}
-use Rattle.stages.proofs.SwapPassLaws.{standing₂, clear₂, empty₂, standing₃, pass-made}
+use Rattle.stages.proofs.SwapPassLaws.{standing₂, clear₂, empty₂, sorted₂, standing₃, pass-made}
 use Rattle.stages.proofs.swaps.swap_pass.Statement.{statement}
 use Rattle.stages.proofs.swaps.swap_pass.Tie as tie
 
@@ -22,7 +22,7 @@ list-all-requires c κs =
     let p = c .before .before .before .before .before .before .before .before .before .before .pre in
     let a = c .before .before .before .before .before .before .before .clear .ensures in
     let b = c .before .before .before .clear2 .ensures in
-    (standing₂ (p .0) (p .1) (a .0) (a .1) (b .0) (b .1) .given, clear₂ (p .0) (p .1) (a .0) (a .1) (b .0) (b .1), empty₂ (p .0) (p .1) (a .0) (a .1) (b .0) (b .1))
+    (standing₂ (p .0) (p .1) (a .0) (a .1) (b .0) (b .1) .given, clear₂ (p .0) (p .1) (a .0) (a .1) (b .0) (b .1), empty₂ (p .0) (p .1) (a .0) (a .1) (b .0) (b .1), sorted₂ (p .0) (p .1) (a .0) (a .1) (b .0) (b .1))
 
 swap-ranks-requires : tie.Need-swap-ranks-requires
 swap-ranks-requires c κs =

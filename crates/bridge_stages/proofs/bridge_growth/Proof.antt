@@ -1,0 +1,62 @@
+use Rattle.bridge_stages.specs.Lent.{Lent, lent}
+use Rattle.bridge_stages.proofs.StageLaws.{within, growth-refused, growable, grown-told}
+use borrow.Author.Needs.{needs}
+use Rattle.bridge_stages.proofs.bridge_growth.Statement.{statement}
+use Rattle.bridge_stages.proofs.bridge_growth.Tie as tie
+
+-- what the function was handed
+abbrev given : tie.Start → Lent
+given s = lent (s .args .offsets .now) (s .args .neighbors .now) (s .args .weights .now) (s .args .owners .now) (s .args .ranks)
+
+enter-requires : tie.Need-enter-requires
+enter-requires c κs = search needs
+
+same-length : tie.Need-same-length
+same-length c = search needs
+
+returns : tie.Need-returns
+returns c = growth-refused (given (c .before .before .before .before .before .before .before .before .before .before)) _ _ _ (c .before .before .before .enter .ensures) (c .if1 .taken) (c .before .before .before .before .before .before .before .before .before .before .args .cap)
+
+place-of-requires : tie.Need-place-of-requires
+place-of-requires c κs = within (given (c .before .before .before .before .before .before .before .before .before .before)) _ _ _ (c .before .before .before .enter .ensures) (c .if1 .left)
+
+index-requires : tie.Need-index-requires
+index-requires c κs = search needs
+
+weighted-multisource-partition-requires : tie.Need-weighted-multisource-partition-requires
+weighted-multisource-partition-requires c κs = growable (given (c .before .before .before .before .before .before .before .before .before .before .before .before .before)) _ _ _ (c .before .before .before .before .before .before .enter .ensures) (c .before .before .before .if1 .left) (c .before .before .place-of .result) (c .before .before .place-of .ensures) (c .index .result) (c .index .ensures)
+
+enum-known-n : tie.Need-enum-known-n
+enum-known-n c = search needs
+
+enum-known-number : tie.Need-enum-known-number
+enum-known-number c = search needs
+
+same-length-2 : tie.Need-same-length-2
+same-length-2 c = search needs
+
+returns-2 : tie.Need-returns-2
+returns-2 c = grown-told (given (c .before .before .before .before .before .before .before .before .before .before .before .before .before .before .before .before .before .before .before)) _ _ _ (c .before .before .before .before .before .before .before .before .before .before .before .before .enter .ensures) (c .before .before .before .before .before .before .before .before .before .if1 .left) (c .before .before .before .before .before .before .before .before .place-of .result) (c .before .before .before .before .before .before .before .before .place-of .ensures) (c .before .before .before .before .before .before .index .result) (c .before .before .before .before .before .before .index .ensures) (c .before .before .before .before .before .before .before .before .before .before .before .before .before .before .before .before .before .before .before .args .cap) _ _ (rw (c .before .n .given .1) at (c .before .before .before .before .before .weighted-multisource-partition .ensures))
+
+same-length-3 : tie.Need-same-length-3
+same-length-3 c = search needs
+
+returns-3 : tie.Need-returns-3
+returns-3 c = grown-told (given (c .before .before .before .before .before .before .before .before .before .before .before .before .before .before .before .before .before .before .before)) _ _ _ (c .before .before .before .before .before .before .before .before .before .before .before .before .enter .ensures) (c .before .before .before .before .before .before .before .before .before .if1 .left) (c .before .before .before .before .before .before .before .before .place-of .result) (c .before .before .before .before .before .before .before .before .place-of .ensures) (c .before .before .before .before .before .before .index .result) (c .before .before .before .before .before .before .index .ensures) (c .before .before .before .before .before .before .before .before .before .before .before .before .before .before .before .before .before .before .before .args .cap) _ _ (rw (c .before .number .given .1) at (c .before .before .before .before .before .weighted-multisource-partition .ensures))
+
+pub bridge-growth-spec : {M : Type 1} → statement M
+bridge-growth-spec =
+    tie.close
+    (tie.spec
+    enter-requires
+    same-length
+    returns
+    place-of-requires
+    index-requires
+    weighted-multisource-partition-requires
+    enum-known-n
+    enum-known-number
+    same-length-2
+    returns-2
+    same-length-3
+    returns-3)

@@ -1,0 +1,62 @@
+use Rattle.bridge_stages.specs.Lent.{Lent, lent}
+use Rattle.bridge_stages.proofs.StageLaws.{within, moves-refused, refinable, moved-told}
+use borrow.Author.Needs.{needs}
+use Rattle.bridge_stages.proofs.bridge_moves.Statement.{statement}
+use Rattle.bridge_stages.proofs.bridge_moves.Tie as tie
+
+-- what the function was handed
+abbrev given : tie.Start → Lent
+given s = lent (s .args .offsets .now) (s .args .neighbors .now) (s .args .weights .now) (s .args .owners .now) (s .args .ranks)
+
+enter-requires : tie.Need-enter-requires
+enter-requires c κs = search needs
+
+same-length : tie.Need-same-length
+same-length c = search needs
+
+returns : tie.Need-returns
+returns c = moves-refused (given (c .before .before .before .before .before .before .before .before .before .before)) _ _ _ (c .before .before .before .enter .ensures) (c .if1 .taken) (c .before .before .before .before .before .before .before .before .before .before .args .floor) (c .before .before .before .before .before .before .before .before .before .before .args .cap) (c .before .before .before .before .before .before .before .before .before .before .args .passes)
+
+place-of-requires : tie.Need-place-of-requires
+place-of-requires c κs = within (given (c .before .before .before .before .before .before .before .before .before .before)) _ _ _ (c .before .before .before .enter .ensures) (c .if1 .left)
+
+index-requires : tie.Need-index-requires
+index-requires c κs = search needs
+
+refine-by-cut-requires : tie.Need-refine-by-cut-requires
+refine-by-cut-requires c κs = refinable (given (c .before .before .before .before .before .before .before .before .before .before .before .before .before)) _ _ _ (c .before .before .before .before .before .before .enter .ensures) (c .before .before .before .if1 .left) (c .before .before .place-of .result) (c .before .before .place-of .ensures) (c .before .index .result) (c .before .index .ensures) (c .before .before .before .before .before .before .before .before .before .before .before .before .before .args .floor) (c .before .before .before .before .before .before .before .before .before .before .before .before .before .args .cap) (c .before .before .before .before .before .before .before .before .before .before .before .before .before .args .passes)
+
+enum-known-n : tie.Need-enum-known-n
+enum-known-n c = search needs
+
+enum-known-number : tie.Need-enum-known-number
+enum-known-number c = search needs
+
+same-length-2 : tie.Need-same-length-2
+same-length-2 c = search needs
+
+returns-2 : tie.Need-returns-2
+returns-2 c = moved-told (given (c .before .before .before .before .before .before .before .before .before .before .before .before .before .before .before .before .before .before .before)) _ _ _ (c .before .before .before .before .before .before .before .before .before .before .before .before .enter .ensures) (c .before .before .before .before .before .before .before .before .before .if1 .left) (c .before .before .before .before .before .before .before .before .place-of .result) (c .before .before .before .before .before .before .before .before .place-of .ensures) (c .before .before .before .before .before .before .before .index .result) (c .before .before .before .before .before .before .before .index .ensures) (c .before .before .before .before .before .before .before .before .before .before .before .before .before .before .before .before .before .before .before .args .floor) (c .before .before .before .before .before .before .before .before .before .before .before .before .before .before .before .before .before .before .before .args .cap) (c .before .before .before .before .before .before .before .before .before .before .before .before .before .before .before .before .before .before .before .args .passes) _ _ (rw (c .before .n .given .1) at (c .before .before .before .before .before .refine-by-cut .ensures))
+
+same-length-3 : tie.Need-same-length-3
+same-length-3 c = search needs
+
+returns-3 : tie.Need-returns-3
+returns-3 c = moved-told (given (c .before .before .before .before .before .before .before .before .before .before .before .before .before .before .before .before .before .before .before)) _ _ _ (c .before .before .before .before .before .before .before .before .before .before .before .before .enter .ensures) (c .before .before .before .before .before .before .before .before .before .if1 .left) (c .before .before .before .before .before .before .before .before .place-of .result) (c .before .before .before .before .before .before .before .before .place-of .ensures) (c .before .before .before .before .before .before .before .index .result) (c .before .before .before .before .before .before .before .index .ensures) (c .before .before .before .before .before .before .before .before .before .before .before .before .before .before .before .before .before .before .before .args .floor) (c .before .before .before .before .before .before .before .before .before .before .before .before .before .before .before .before .before .before .before .args .cap) (c .before .before .before .before .before .before .before .before .before .before .before .before .before .before .before .before .before .before .before .args .passes) _ _ (rw (c .before .number .given .1) at (c .before .before .before .before .before .refine-by-cut .ensures))
+
+pub bridge-moves-spec : {M : Type 1} → statement M
+bridge-moves-spec =
+    tie.close
+    (tie.spec
+    enter-requires
+    same-length
+    returns
+    place-of-requires
+    index-requires
+    refine-by-cut-requires
+    enum-known-n
+    enum-known-number
+    same-length-2
+    returns-2
+    same-length-3
+    returns-3)

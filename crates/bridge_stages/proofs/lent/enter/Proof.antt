@@ -1,0 +1,40 @@
+use mathlib.Core.Path.{refl, sym, _∙_}
+use lib.ListN.{length}
+use Rattle.bridge_stages.specs.Lent.{Lent, lent}
+use Rattle.bridge_stages.proofs.LentLaws.{passed, level-fits, level-in}
+use borrow.Author.Needs.{needs}
+use Rattle.bridge_stages.proofs.lent.enter.Statement.{statement}
+use Rattle.bridge_stages.proofs.lent.enter.Tie as tie
+
+-- what the function was handed
+abbrev given : tie.Start → Lent
+given s = lent (s .args .offsets .now) (s .args .neighbors .now) (s .args .weights .now) (s .args .owners .now) (s .args .ranks)
+
+lent-cause-requires : tie.Need-lent-cause-requires
+lent-cause-requires c κs = search needs
+
+returns : tie.Need-returns
+returns c = record { cause = c .before .lent-cause .ensures; refused = λ _. refl; laid = λ z. absurd (c .if1 .taken z) }
+
+place-of-requires : tie.Need-place-of-requires
+place-of-requires c κs = passed (given (c .before .before .before .before .before .before .before)) (length (c .before .before .before .before .before .before .before .args .work .now)) (sym (c .before .lent-cause .ensures) ∙ c .if1 .left) .limits
+
+lay-level-requires : tie.Need-lay-level-requires
+lay-level-requires c κs = level-fits (given (c .before .before .before .before .before .before .before .before .before)) (c .before .before .before .before .before .before .before .before .before .args .work .now) (sym (c .before .before .before .lent-cause .ensures) ∙ c .before .before .if1 .left) (c .before .place-of .result) (c .before .place-of .ensures)
+
+same-length : tie.Need-same-length
+same-length c = search needs
+
+returns-2 : tie.Need-returns-2
+returns-2 c = record { cause = sym (c .before .before .before .before .before .if1 .left) ∙ c .before .before .before .before .before .before .lent-cause .ensures; refused = λ f. absurd (f refl); laid = λ _. level-in (given (c .before .before .before .before .before .before .before .before .before .before .before .before)) (c .before .before .before .before .before .before .before .before .before .before .before .before .args .work .now) (sym (c .before .before .before .before .before .before .lent-cause .ensures) ∙ c .before .before .before .before .before .if1 .left) (c .before .before .before .before .place-of .result) (c .before .before .before .before .place-of .ensures) _ (c .before .before .lay-level .ensures) }
+
+pub enter-spec : {M : Type 1} → statement M
+enter-spec =
+    tie.close
+    (tie.spec
+    lent-cause-requires
+    returns
+    place-of-requires
+    lay-level-requires
+    same-length
+    returns-2)

@@ -1,0 +1,127 @@
+//! Hipstern's division beside the Rust's, in one process and one run: how many times as fast it is.
+//!
+//!     benchmark [--times NUMBER] [WORD..]
+//!
+//! Each row is a site, a number of ranks and options. Both divide it in turn, NUMBER times (5 if not given; once where the Rust
+//! takes more than two seconds), and the least time of each counts. Owners and stats are compared too. With words, only rows
+//! whose name has one of them run. The Rust gets its matrix ready made and allocates as it goes; the library gets its lists,
+//! which it tests, and slices that were lent to it before.
+use compare::bridge;
+use reference::answers::{Options, lent_needs};
+use reference::random::Random;
+use reference::sites::{self, Site};
+use reference::{Csr32Matrix, abtm_multilevel_partition, forced};
+use std::time::{Duration, Instant};
+
+struct Row {
+    name: String,
+    site: Site,
+    ranks: u32,
+    options: Options,
+}
+
+/// The least times of both, the library's first; a difference ends the run.
+fn measure(row: &Row, times: u32) -> (Duration, Duration) {
+    let Row { site, ranks, options, .. } = row;
+    let (n, m) = (site.vertices(), site.neighbors.len());
+    let matrix =
+        Csr32Matrix::new(n, n, site.offsets.clone(), site.neighbors.clone(), vec![1.0; m]).expect("sound lists");
+    let (owners_need, work_need) = lent_needs(n, m, *ranks, options.max_levels);
+    let (mut owners, mut work) = (vec![1u32; owners_need], vec![1u32; work_need]);
+    let (mut ours, mut rust) = (Duration::MAX, Duration::MAX);
+    for _ in 0..times {
+        let start = Instant::now();
+        let (number, stats) = bridge::divide(&site.offsets, &site.neighbors, *ranks, *options, &mut owners, &mut work);
+        ours = ours.min(start.elapsed());
+        let start = Instant::now();
+        let answer = abtm_multilevel_partition(&matrix, *ranks, options.to_rust());
+        rust = rust.min(start.elapsed());
+        match answer {
+            Ok((assignment, s)) => {
+                assert_eq!(
+                    (number, stats[5], stats[6]),
+                    (0, s.refinement_moves as u64, s.final_cut_nnz as u64),
+                    "{}",
+                    row.name
+                );
+                assert_eq!(owners, assignment.owners(), "{}", row.name);
+            }
+            Err(_) => assert_ne!(number, 0, "{}", row.name),
+        }
+        if rust > Duration::from_secs(2) {
+            break;
+        }
+    }
+    (ours, rust)
+}
+
+fn rows() -> Vec<Row> {
+    let n = 16_384;
+    let mut random = Random::new(1);
+    let default =
+        Options { max_levels: 12, coarse_vertices_per_rank: 64, imbalance_per_mille: 30, refinement_passes: 2 };
+    let shapes = [
+        ("grid", sites::grid(128, 128)),
+        ("geometric", sites::geometric(&mut random, n, 12_700)),
+        ("path", sites::path(n)),
+        ("star", sites::star(n)),
+        ("tree", sites::tree(&mut random, n, n)),
+        ("hubs", sites::hubs(n, 4)),
+    ];
+    let mut rows = Vec::new();
+    for (name, site) in shapes {
+        for ranks in [2, 8, 64, 256] {
+            rows.push(Row { name: name.into(), site: site.clone(), ranks, options: default });
+        }
+    }
+    rows.push(Row { name: "forty turbines".into(), site: sites::grid(5, 8), ranks: 4, options: default });
+    let forced_options = |imbalance_per_mille| Options {
+        coarse_vertices_per_rank: u64::MAX,
+        imbalance_per_mille,
+        refinement_passes: u64::MAX,
+        ..default
+    };
+    rows.push(Row { name: "forced moves".into(), site: forced::moves(64, 256), ranks: 64, options: forced_options(1) });
+    rows.push(Row { name: "forced swaps".into(), site: forced::swaps(64, 256), ranks: 64, options: forced_options(0) });
+    rows
+}
+
+fn main() {
+    let (mut times, mut only) = (5u32, Vec::new());
+    let mut words = std::env::args().skip(1);
+    while let Some(word) = words.next() {
+        match word.as_str() {
+            "--times" => times = words.next().and_then(|w| w.parse().ok()).expect("--times NUMBER"),
+            _ => only.push(word),
+        }
+    }
+    println!("| site | n | m | k | the Rust, ms | the library, ms | times as fast | work, numbers |");
+    println!("|---|---|---|---|---|---|---|---|");
+    let (mut logs, mut count, mut least) = (0.0, 0, f64::MAX);
+    for row in rows() {
+        if !only.is_empty() && !only.iter().any(|w| row.name.contains(w.as_str())) {
+            continue;
+        }
+        // a small site is divided often enough to be timed
+        let repeated = if row.site.vertices() < 1000 { 200 * times } else { times };
+        let (ours, rust) = measure(&row, repeated);
+        let ratio = rust.as_secs_f64() / ours.as_secs_f64();
+        let (n, m) = (row.site.vertices(), row.site.neighbors.len());
+        let ms = |d: Duration| d.as_secs_f64() * 1e3;
+        let (_, work) = lent_needs(n, m, row.ranks, row.options.max_levels);
+        println!(
+            "| {} | {n} | {m} | {} | {:.3} | {:.3} | {ratio:.1} | {work} |",
+            row.name,
+            row.ranks,
+            ms(rust),
+            ms(ours)
+        );
+        logs += ratio.ln();
+        count += 1;
+        least = least.min(ratio);
+    }
+    println!(
+        "\n{count} rows: {:.1} times as fast in the geometric mean, {least:.1} at least",
+        (logs / f64::from(count)).exp()
+    );
+}

@@ -1,0 +1,2 @@
+//! The library as the comparison and the benchmark call it.
+pub mod bridge;
