@@ -3,6 +3,7 @@
 //!     replay samples FOLDER           prints each link file of the folder by name, with its listing
 //!     replay requests FOLDER OUT      writes OUT/stdin, OUT/stdout and OUT/REQUESTS.md: the requests of crates/replay, the listings, and what each
 //!                                     request is for. FOLDER is that of the samples
+//!     replay answers STDIN            prints the listings of the requests in that file, and sees that each slip is told by one of them
 // multilevel.rs, of which requests.rs has copies with a slip each, names these as of its own crate, and the matrix crate
 extern crate reference as hybit_matrix;
 use reference::{
@@ -23,9 +24,10 @@ fn main() {
                 print!("== {name}\n{}", listing(&file));
             }
         }
+        ["answers", stdin] => print!("{}", requests::answers(&std::fs::read(stdin).expect("the requests"))),
         ["requests", folder, out] => requests::write(samples(Path::new(folder)), Path::new(out)),
         _ => {
-            eprintln!("usage: replay samples FOLDER | replay requests FOLDER OUT");
+            eprintln!("usage: replay samples FOLDER | replay requests FOLDER OUT | replay answers STDIN");
             std::process::exit(2);
         }
     }

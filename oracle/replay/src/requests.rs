@@ -1,6 +1,6 @@
 //! The requests of crates/replay: the samples, sites that tell each slip from the Rust, and random sites.
 use reference::answers::{Options, partition, refusal};
-use reference::link_file::{LIMITS, write as file_of};
+use reference::link_file::{Contents, LIMITS, check, write as file_of};
 use reference::listing::listing;
 use reference::random::Random;
 use reference::sites::{self, Site};
@@ -50,6 +50,15 @@ impl Question {
         Question { site, ranks, options }
     }
 
+    /// What an accepted file asks.
+    fn of(file: &[u8]) -> Option<Self> {
+        let Contents { header, site } = check(file).ok()?;
+        let [max_levels, coarse_vertices_per_rank, imbalance_per_mille, refinement_passes] =
+            [header[3], header[4], header[5], header[6]].map(u64::from);
+        let options = Options { max_levels, coarse_vertices_per_rank, imbalance_per_mille, refinement_passes };
+        Some(Question { site, ranks: header[2], options })
+    }
+
     fn file(&self) -> Vec<u8> {
         let o = self.options;
         let options =
@@ -94,6 +103,22 @@ fn telling(random: &mut Random, name: &str, copy: slips::Asked) -> Vec<Question>
     }
     assert!(!found.is_empty(), "no site tells the slip {name}");
     found
+}
+
+/// The listings of stored requests, each of them behind its length. Each slip must be told by one of them.
+pub fn answers(mut stdin: &[u8]) -> String {
+    let mut files = Vec::new();
+    while let Some((head, rest)) = stdin.split_first_chunk::<4>() {
+        let (file, later) = rest.split_at(u32::from_le_bytes(*head) as usize);
+        files.push(file);
+        stdin = later;
+    }
+    assert!(stdin.is_empty(), "a request cut short");
+    let questions: Vec<_> = files.iter().filter_map(|file| Question::of(file)).collect();
+    for &(name, _, copy) in COPIES {
+        assert!(questions.iter().any(|q| q.tells(copy)), "no request tells the slip {name}");
+    }
+    files.iter().map(|file| listing(file)).collect()
 }
 
 pub fn write(samples: Vec<(String, Vec<u8>)>, out: &Path) {
