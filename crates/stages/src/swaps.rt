@@ -169,7 +169,7 @@ fn list_all(work: &mut [u32], s: SwapRoom)
 
 // ---- proposals
 
-// The product of two candidates joins the proposals.
+// The product of two candidates joins the proposals. Whether they are linked is asked only where they gain without that.
 fn propose(list: &mut [u32], room: usize, w: &[u32], s: SwapRoom, x: Member, y: Member)
     requires { ⌜ Given (now w) s × (length (now list) ≡ 3 * room) × Fair (s .level .vertices) (candidateOf x) × Fair (s .level .vertices) (candidateOf y) ⌝ }
     ensures { λ _. ⌜ slots proposal room (now (list .exit))
@@ -178,7 +178,11 @@ fn propose(list: &mut [u32], room: usize, w: &[u32], s: SwapRoom, x: Member, y: 
     let u = x.vertex;
     let v = y.vertex;
     let there = x.there + y.there;
-    let home = x.home + y.home + 2 * linked(w, s, index(u), index(v));
+    let apart = x.home + y.home;
+    if there <= apart {
+        return;
+    }
+    let home = apart + 2 * linked(w, s, index(u), index(v));
     if home < there {
         add(list, room, there - home, u, v);
     }

@@ -1,6 +1,6 @@
--- The net is above 0 exactly where home is below there. Assumes nothing.
+-- The net is above 0 exactly where home is below there; without a link it is no lower. Assumes nothing.
 use Prim.Native.Nat.{ℕ}
-use mathlib.Core.Path.{_≡_, sym, ap, _∙_}
+use mathlib.Core.Path.{_≡_, refl, sym, ap, _∙_}
 use native.Mathlib.Omega.{arith}
 use borrow.Author.Needs.{needs}
 use Rattle.stages.specs.Moves.{linked}
@@ -14,8 +14,15 @@ use Rattle.stages.proofs.swaps.propose.Tie as tie
 add-there : tie.Need-add-there
 add-there c = search needs
 
-add-home : tie.Need-add-home
-add-home c = search needs
+add-apart : tie.Need-add-apart
+add-apart c = search needs
+
+returns : tie.Need-returns
+returns c =
+    let a = c .before .before .before .before .before .before .before .args in
+    let rows = rowsAt (a .w .now) (a .s .level) in
+    let o = linked rows (a .x .vertex) (a .y .vertex) in
+    sym (propose-no rows (candidateOf (a .x)) (candidateOf (a .y)) (a .room) o refl (slots proposal (a .room) (a .list .now)) (omega (arith, c .if1 .taken)))
 
 index-requires : tie.Need-index-requires
 index-requires c κs = search needs
@@ -29,8 +36,8 @@ linked-requires c κs = search needs
 mul-home : tie.Need-mul-home
 mul-home c = search needs
 
-add-home-2 : tie.Need-add-home-2
-add-home-2 c = search needs
+add-home : tie.Need-add-home
+add-home c = search needs
 
 sub-add : tie.Need-sub-add
 sub-add c = search needs
@@ -41,35 +48,39 @@ add-requires c κs = search needs
 same-length : tie.Need-same-length
 same-length c = search needs
 
-returns : tie.Need-returns
-returns c =
-    let a = c .before .before .before .before .before .before .before .before .before .before .before .before .before .before .args in
-    let rows = rowsAt (a .w .now) (a .s .level) in
-    let e : c .before .before .before .before .before .linked .result ≡ linked rows (a .x .vertex) (a .y .vertex) =
-    c .before .before .before .before .before .linked .ensures .1 ∙ ap (λ (i : ℕ). linked rows i (c .before .before .before .before .before .before .index2 .result)) (c .before .before .before .before .before .before .before .index .ensures) ∙ ap (linked rows (a .x .vertex)) (c .before .before .before .before .before .before .index2 .ensures) in
-    c .before .before .add .ensures ∙ sym (propose-yes rows (candidateOf (a .x)) (candidateOf (a .y)) (a .room) (c .before .before .before .before .before .linked .result) e (slots proposal (a .room) (a .list .now)) (omega (arith, c .before .before .before .before .if1 .taken)))
-
 returns-2 : tie.Need-returns-2
 returns-2 c =
-    let a = c .before .before .before .before .before .before .before .before .before .before .args in
+    let a = c .before .before .before .before .before .before .before .before .before .before .before .before .before .before .before .args in
     let rows = rowsAt (a .w .now) (a .s .level) in
-    let e : c .before .linked .result ≡ linked rows (a .x .vertex) (a .y .vertex) =
-    c .before .linked .ensures .1 ∙ ap (λ (i : ℕ). linked rows i (c .before .before .index2 .result)) (c .before .before .before .index .ensures) ∙ ap (linked rows (a .x .vertex)) (c .before .before .index2 .ensures) in
-    sym (propose-no rows (candidateOf (a .x)) (candidateOf (a .y)) (a .room) (c .before .linked .result) e (slots proposal (a .room) (a .list .now)) (omega (arith, c .if1 .left)))
+    let l = c .before .before .before .before .before .linked in
+    let e : l .result ≡ linked rows (a .x .vertex) (a .y .vertex) =
+    l .ensures .1 ∙ ap (λ (i : ℕ). linked rows i (c .before .before .before .before .before .before .index2 .result)) (c .before .before .before .before .before .before .before .index .ensures) ∙ ap (linked rows (a .x .vertex)) (c .before .before .before .before .before .before .index2 .ensures) in
+    c .before .before .add .ensures
+    ∙ sym (propose-yes rows (candidateOf (a .x)) (candidateOf (a .y)) (a .room) (l .result) e (slots proposal (a .room) (a .list .now)) (omega (arith, c .before .before .before .before .if2 .taken)))
+
+returns-3 : tie.Need-returns-3
+returns-3 c =
+    let a = c .before .before .before .before .before .before .before .before .before .before .before .args in
+    let rows = rowsAt (a .w .now) (a .s .level) in
+    let l = c .before .linked in
+    let e : l .result ≡ linked rows (a .x .vertex) (a .y .vertex) =
+    l .ensures .1 ∙ ap (λ (i : ℕ). linked rows i (c .before .before .index2 .result)) (c .before .before .before .index .ensures) ∙ ap (linked rows (a .x .vertex)) (c .before .before .index2 .ensures) in
+    sym (propose-no rows (candidateOf (a .x)) (candidateOf (a .y)) (a .room) (l .result) e (slots proposal (a .room) (a .list .now)) (omega (arith, c .if2 .left)))
 
 pub propose-spec : {M : Type 1} → statement M
 propose-spec =
     tie.close
     (tie.spec
     add-there
-    add-home
+    add-apart
+    returns
     index-requires
     index-requires-2
     linked-requires
     mul-home
-    add-home-2
+    add-home
     sub-add
     add-requires
     same-length
-    returns
-    returns-2)
+    returns-2
+    returns-3)
