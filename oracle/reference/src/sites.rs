@@ -121,6 +121,20 @@ pub fn hubs(n: usize, hubs: usize) -> Site {
     Site::new(n, &links)
 }
 
+/// A hub whose leaves have the more links the higher they are numbered, up to `classes`, to vertices beyond the leaves: the groups
+/// of its neighbors, numbered by degree falling, come to its row in about falling order.
+pub fn skewed_hub(n: usize, leaves: usize, classes: usize) -> Site {
+    let mut links: Vec<_> = (1..=leaves).map(|v| (0, v)).collect();
+    let (first, mut next) = (leaves + 1, 0);
+    for v in 1..=leaves {
+        for _ in 0..(v - 1) * classes / leaves {
+            links.push((v, first + next % (n - first)));
+            next += 1;
+        }
+    }
+    Site::new(n, &links)
+}
+
 pub fn clique(n: usize) -> Site {
     hubs(n, n)
 }

@@ -67,6 +67,7 @@ fn rows() -> Vec<Row> {
         ("star", sites::star(n)),
         ("tree", sites::tree(&mut random, n, n)),
         ("hubs", sites::hubs(n, 4)),
+        ("skewed hub", sites::skewed_hub(n, 11_000, 5)),
     ];
     let mut rows = Vec::new();
     for (name, site) in shapes {
