@@ -81,7 +81,7 @@ add-end : tie.Need-add-end
 add-end c = search needs
 
 cast-store-part : tie.Need-cast-store-part
-cast-store-part c = search needs
+cast-store-part c = let h = within (c .before .before .before .before .before .before .before .before .before .before .before .before .before .before) in search needs
 
 store-part-requires-3 : tie.Need-store-part-requires-3
 store-part-requires-3 c κs = search needs
