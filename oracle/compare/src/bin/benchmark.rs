@@ -3,15 +3,76 @@
 //!     benchmark [--times NUMBER] [WORD..]
 //!
 //! Each row is a site, a number of ranks and options. Both divide it in turn, NUMBER times (5 if not given; once where the Rust
-//! takes more than two seconds), and the least time of each counts. Owners and stats are compared too. With words, only rows
-//! whose name has one of them run. The Rust gets its matrix ready made and allocates as it goes; the library gets its lists,
-//! which it tests, and slices that were lent to it before.
+//! takes more than two seconds), and the least time of each counts. Owners, moves and cut are compared too. With words, only
+//! rows whose name has one of them run. The Rust gets its matrix ready made and allocates as it goes; the library gets its lists,
+//! which it tests, and slices that were lent to it before and hold what the run before left. Memory is what a division takes
+//! beside the site: the lent owners and work numbers, and the most that the Rust has allocated at one time, told by one more
+//! run that is not timed.
 use compare::bridge;
 use reference::answers::{Options, lent_needs};
 use reference::random::Random;
 use reference::sites::{self, Site};
 use reference::{Csr32Matrix, abtm_multilevel_partition, forced};
+use std::alloc::{GlobalAlloc, Layout, System};
+use std::sync::atomic::{AtomicBool, AtomicUsize, Ordering::Relaxed};
 use std::time::{Duration, Instant};
+
+/// The system's allocator, which keeps count while it is told to.
+struct Counting;
+
+static COUNTS: AtomicBool = AtomicBool::new(false);
+static HELD: AtomicUsize = AtomicUsize::new(0);
+static MOST: AtomicUsize = AtomicUsize::new(0);
+
+fn taken(bytes: usize) {
+    if COUNTS.load(Relaxed) {
+        let held = HELD.fetch_add(bytes, Relaxed) + bytes;
+        MOST.fetch_max(held, Relaxed);
+    }
+}
+
+fn given_back(bytes: usize) {
+    if COUNTS.load(Relaxed) {
+        HELD.fetch_sub(bytes, Relaxed);
+    }
+}
+
+// SAFETY: every call is passed on to the system's allocator as it came.
+unsafe impl GlobalAlloc for Counting {
+    unsafe fn alloc(&self, layout: Layout) -> *mut u8 {
+        taken(layout.size());
+        unsafe { System.alloc(layout) }
+    }
+
+    unsafe fn alloc_zeroed(&self, layout: Layout) -> *mut u8 {
+        taken(layout.size());
+        unsafe { System.alloc_zeroed(layout) }
+    }
+
+    unsafe fn realloc(&self, p: *mut u8, layout: Layout, size: usize) -> *mut u8 {
+        taken(size);
+        given_back(layout.size());
+        unsafe { System.realloc(p, layout, size) }
+    }
+
+    unsafe fn dealloc(&self, p: *mut u8, layout: Layout) {
+        given_back(layout.size());
+        unsafe { System.dealloc(p, layout) }
+    }
+}
+
+#[global_allocator]
+static ALLOCATOR: Counting = Counting;
+
+/// The most bytes that `run` has allocated at one time.
+fn most_allocated(run: impl FnOnce()) -> usize {
+    HELD.store(0, Relaxed);
+    MOST.store(0, Relaxed);
+    COUNTS.store(true, Relaxed);
+    run();
+    COUNTS.store(false, Relaxed);
+    MOST.load(Relaxed)
+}
 
 struct Row {
     name: String,
@@ -20,8 +81,16 @@ struct Row {
     options: Options,
 }
 
-/// The least times of both, the library's first; a difference ends the run.
-fn measure(row: &Row, times: u32) -> (Duration, Duration) {
+/// What a row takes: the least times of both, and the bytes of both.
+struct Taken {
+    ours: Duration,
+    rust: Duration,
+    lent: usize,
+    allocated: usize,
+}
+
+/// A difference ends the run.
+fn measure(row: &Row, times: u32) -> Taken {
     let Row { site, ranks, options, .. } = row;
     let (n, m) = (site.vertices(), site.neighbors.len());
     let matrix =
@@ -52,7 +121,8 @@ fn measure(row: &Row, times: u32) -> (Duration, Duration) {
             break;
         }
     }
-    (ours, rust)
+    let allocated = most_allocated(|| drop(abtm_multilevel_partition(&matrix, *ranks, options.to_rust())));
+    Taken { ours, rust, lent: 4 * (owners_need + work_need), allocated }
 }
 
 fn rows() -> Vec<Row> {
@@ -96,8 +166,8 @@ fn main() {
             _ => only.push(word),
         }
     }
-    println!("| site | n | m | k | the Rust, ms | the library, ms | times as fast | work, numbers |");
-    println!("|---|---|---|---|---|---|---|---|");
+    println!("| site | n | m | k | the Rust, ms | the library, ms | times as fast | the Rust, MB | the library, MB |");
+    println!("|---|---|---|---|---|---|---|---|---|");
     let (mut logs, mut count, mut least) = (0.0, 0, f64::MAX);
     for row in rows() {
         if !only.is_empty() && !only.iter().any(|w| row.name.contains(w.as_str())) {
@@ -105,17 +175,19 @@ fn main() {
         }
         // a small site is divided often enough to be timed
         let repeated = if row.site.vertices() < 1000 { 200 * times } else { times };
-        let (ours, rust) = measure(&row, repeated);
+        let Taken { ours, rust, lent, allocated } = measure(&row, repeated);
         let ratio = rust.as_secs_f64() / ours.as_secs_f64();
         let (n, m) = (row.site.vertices(), row.site.neighbors.len());
         let ms = |d: Duration| d.as_secs_f64() * 1e3;
-        let (_, work) = lent_needs(n, m, row.ranks, row.options.max_levels);
+        let mb = |bytes: usize| bytes as f64 / 1e6;
         println!(
-            "| {} | {n} | {m} | {} | {:.3} | {:.3} | {ratio:.1} | {work} |",
+            "| {} | {n} | {m} | {} | {:.3} | {:.3} | {ratio:.1} | {:.2} | {:.2} |",
             row.name,
             row.ranks,
             ms(rust),
-            ms(ours)
+            ms(ours),
+            mb(allocated),
+            mb(lent)
         );
         logs += ratio.ln();
         count += 1;
