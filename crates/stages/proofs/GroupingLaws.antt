@@ -178,6 +178,13 @@ elems-few (x ∷ xs) i n =
       elems-few xs i n,
     )
 
+-- a row has no more entries than what it is made of
+pub row-few : (m g : ℕ) (xs : List ℕ) → length (filter (λ h. not (eqb h g) && elem h xs) (range 0 m)) ≤ length xs
+row-few m g xs =
+    let test : ℕ → Bool = λ h. not (eqb h g) && elem h xs in
+    let less : (h : ℕ) → tally (test h) ≤ tally (elem h xs) = λ h. split (not (eqb h g)) (λ p. rw p (omega arith)) (λ p. rw p (omega arith)) in
+    omega (arith, count-range test 0 m, total-le 0 m (λ h. tally (test h)) (λ h. tally (elem h xs)) less, elems-few xs 0 m)
+
 -- an entry of a coarse row comes from an entry of a fine row of its own
 pub rows-entries
     : (rows : List (List ℕ)) (group : List ℕ) (m : ℕ) → sum (map length (map (coarseRow rows group m) (range 0 m))) ≤ sum (map length rows)
@@ -189,17 +196,7 @@ rows-entries rows group m =
     λ g. length-concat (λ v. map (at group) (row rows v)) (λ v. eqb (at group v) g) 0 n
     ∙ total-ext 0 n _ (λ v. part g v) (λ v h k. ap (λ (d : ℕ). cond (eqb (at group v) g) d 0) (length-map (row rows v) (at group))) in
     let one : (g : ℕ) → length (coarseRow rows group m g) ≤ total 0 n (λ v. part g v) =
-    λ g.
-    let test : ℕ → Bool = λ h. not (eqb h g) && elem h (touched rows group g) in
-    let less : (h : ℕ) → tally (test h) ≤ tally (elem h (touched rows group g)) =
-    λ h. split (not (eqb h g)) (λ p. rw p (omega arith)) (λ p. rw p (omega arith)) in
-    omega (
-      arith,
-      count-range test 0 m,
-      total-le 0 m (λ h. tally (test h)) (λ h. tally (elem h (touched rows group g))) less,
-      elems-few (touched rows group g) 0 m,
-      size g,
-    ) in
+    λ g. omega (arith, row-few m g (touched rows group g), size g) in
     let once : (v : ℕ) → total 0 m (λ g. part g v) ≤ degree rows v =
     λ v.
     let turned = total-ext 0 m (λ g. part g v) (λ g. cond (eqb g (at group v)) (degree rows v) 0) (λ g h k. rw (eqb-sym (at group v) g)) in

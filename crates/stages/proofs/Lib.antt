@@ -43,6 +43,7 @@ pub mod CoarsenMarkLaws
 pub mod CoarsenPairLaws
 pub mod CoarsenGrowLaws
 pub mod CoarsenRowLaws
+pub mod CoarsenScanLaws
 pub mod CoarsenChainLaws
 pub mod CoarsenListsLaws
 pub mod CoarsenOnceLaws
