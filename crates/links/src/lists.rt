@@ -8,6 +8,7 @@ ghost use Rattle.links.specs.Graph.{vertexCount, neighborsOf, neighborsC
 ghost use Rattle.links.specs.ListTest.{validRow, validRows, mirroredRow, mirroredRows, Rising};
 
 // How many vertices the offsets have: their number less 1, 0 if there are none.
+// Rules out: one vertex where there are no offsets; a vertex for the last offset.
 pub fn vertex_count(offsets: &[u32]) -> usize
     ensures { λ r. ⌜ r ≡ vertexCount (now (offsets .entry)) ⌝ }
 {
@@ -52,6 +53,7 @@ pub fn neighbors_of<'a, 'b>(offsets: &'b [u32], neighbors: &'a [u32], v: u64) ->
 }
 
 // Whether a rising row has x: by halves.
+// Rules out: a number of the row's last half missed; one found that is not there.
 pub fn holds(row: &[u32], x: usize) -> bool
     requires { ⌜ strictlyRising (now row) ≡ true ⌝ }
     ensures { λ r. ⌜ r ≡ elem x (now (row .entry)) ⌝ }

@@ -6,6 +6,7 @@ ghost use Rattle.links.specs.Loads.{saturating, share, loadCap, minimumL
 const U64_MAX: u64 = 0xffff_ffff_ffff_ffff;
 
 // The product, or 2^64 - 1 where it is greater: told by a division, so that nothing overflows.
+// Rules out: a product that wraps; 2^64 - 1 for a product that fits.
 pub fn saturating_mul(a: u64, b: u64) -> u64
     ensures { λ r. ⌜ r ≡ saturating (a * b) ⌝ }
 {
@@ -16,6 +17,7 @@ pub fn saturating_mul(a: u64, b: u64) -> u64
 }
 
 // The sum, or 2^64 - 1 where it is greater.
+// Rules out: a sum that wraps; 2^64 - 1 for a sum that fits.
 pub fn saturating_add(a: u64, b: u64) -> u64
     ensures { λ r. ⌜ r ≡ saturating (a + b) ⌝ }
 {

@@ -56,6 +56,7 @@ impl AbtmMultilevelOptions {
 
 impl AbtmMultilevelStats {
     // What every refusal returns.
+    // Rules out: a level counted where none was built; the cut of a refused site.
     pub fn zero() -> Self
         ensures { λ r. ⌜ r ≡ zeroStats ⌝ }
     {
@@ -82,6 +83,7 @@ impl AbtmMultilevelStats {
     }
 
     // The moves and swaps of one level more.
+    // Rules out: a sum that wraps; the last level's moves in place of the sum.
     pub fn added_moves(mut self, moves: u64) -> Self
         ensures { λ r. ⌜ r ≡ addedMoves self moves ⌝ }
     {
@@ -90,6 +92,7 @@ impl AbtmMultilevelStats {
     }
 
     // The groups that growth met, and its restarts.
+    // Rules out: the finest level's vertices; restarts added to what was there.
     pub fn grown(mut self, coarsest: u64, restarts: u64) -> Self
         ensures { λ r. ⌜ r ≡ grownStats self coarsest restarts ⌝ }
     {
@@ -99,6 +102,7 @@ impl AbtmMultilevelStats {
     }
 
     // The cut and the volume of the owners at the end.
+    // Rules out: cut and volume in each other's place; a count of moves set back to 0.
     pub fn measured(mut self, cut: u64, volume: u64) -> Self
         ensures { λ r. ⌜ r ≡ measuredStats self cut volume ⌝ }
     {

@@ -102,7 +102,7 @@ pub fn write_site(text: &mut [u8], ranks: u32, owners: &[u32], stats: AbtmMultil
 }
 
 // The line of a refusal. A slice of less than 29 bytes is left as it was, and the answer is 0.
-// Rules out: the number left out.
+// Rules out: the number left out; a byte written beyond the line.
 pub fn write_refusal(text: &mut [u8], number: u32) -> usize
     ensures { λ r. ⌜ Told (refusalText number) refusalRoom (now (text .entry)) (now (text .exit)) r ⌝ }
 {

@@ -601,6 +601,7 @@ fn room_at(l: HierarchyLevel, scratch: usize, ranks: usize) -> GrowthRoom
 }
 
 // Rule 5: the ranks grow from rule 4's seeds. 6 for a group weight above the cap, 7 for fewer groups than ranks, 8 for a round without a claim.
+// Rules out: a restart while a group of the frontier fits; 8 before a claim was tried; a claim beyond the cap.
 pub fn weighted_multisource_partition(
     work: &mut [u32],
     l: HierarchyLevel,

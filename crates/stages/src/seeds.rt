@@ -119,6 +119,7 @@ fn next_seed(work: &[u32], l: HierarchyLevel, scratch: usize) -> u32
 }
 
 // Rule 4: a seed for each rank.
+// Rules out: a vertex that can be reached before one that cannot; of equals the one of higher number.
 pub fn farthest_seeds(work: &mut [u32], l: HierarchyLevel, scratch: usize, ranks: usize)
     requires { ⌜ Seedable (now work) l scratch ranks ⌝ }
     ensures { λ _. ⌜ Seeded (now (work .entry)) (now (work .exit)) l scratch ranks ⌝ }
