@@ -1,7 +1,7 @@
 #!/usr/bin/env bash
 # Compares Hipstern with the unchanged Rust (oracle/reference), through the archives of crates bridge and bridge_stages.
 # The Rust's sources are looked for in HIPSTERN_RUST_SRC (from the repository's root, if it is relative), by default
-# ../shared/docs/src. Words are passed on: --seed NUMBER --count NUMBER, for longer runs. The exit status is not 0 where an
+# ../shared/docs/src. Words are passed on: --long, --seed NUMBER, --count NUMBER, for longer runs. The exit status is not 0 where an
 # answer differs.
 set -eu
 cd "$(dirname "$0")/.."
