@@ -142,6 +142,11 @@ pub const SLIPS: &[(&str, &str, &[(&str, &str)])] = &[
         )],
     ),
     (
+        "swap_unbalanced",
+        "a swap between ranks of which one is below the floor or above the cap",
+        &[("if loads[a] < floor || loads[a] > cap || loads[b] < floor || loads[b] > cap {", "if false {")],
+    ),
+    (
         "seven_candidates",
         "seven candidates for a pair of ranks, not eight",
         &[("items.truncate(8);", "items.truncate(7);")],
