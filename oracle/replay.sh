@@ -1,22 +1,11 @@
 #!/usr/bin/env bash
 # Writes what the Rust answers, for the tests that run without it: samples/expected.txt, and the requests of crates/replay with their answers and the
 # page on what each is for. With --check it writes nothing, and its exit status says whether the stored answers are the Rust's to the samples and to
-# the stored requests, and each slip is told by one of these. The sources are looked for as in run.sh.
+# the stored requests, and each slip is told by one of these. The sources are looked for as sources.sh says.
 set -eu
 cd "$(dirname "$0")/.."
+. oracle/sources.sh replay
 
-sources=${HIPSTERN_RUST_SRC:-../shared/docs/src}
-if [ ! -d "$sources" ]; then
-  echo "replay: skipped: the Rust's sources are not at $sources (HIPSTERN_RUST_SRC)"
-  exit 0
-fi
-HIPSTERN_RUST_SRC=$(cd "$sources" && pwd)
-export HIPSTERN_RUST_SRC
-# what the Rust reads of the environment
-unset HYBIT_A6_F12_MERGE HYBIT_A6_F10_PHASE HYBIT_A6_PHASE_PROFILE
-
-CARGO_TARGET_DIR=$PWD/target/oracle
-export CARGO_TARGET_DIR
 cargo build --quiet --release --offline --locked --manifest-path oracle/Cargo.toml -p replay
 replay=$CARGO_TARGET_DIR/release/replay
 made=target/replay

@@ -1,6 +1,6 @@
 //! The Rust's private stages on rows (row v: v's neighbors, rising) and plain lists. A refusal is 01's number.
 //! Their premises are the Rust's own: symmetric rows, an owner below `ranks` for each vertex, ranks > 0.
-use super::{AbtmMultilevelOptions, DistributedTopologyError, PartitionAssignment, RankId};
+use super::{AbtmMultilevelOptions, Csr32Matrix, DistributedTopologyError, PartitionAssignment, RankId};
 use crate::answers::refusal;
 
 pub type Rows = Vec<Vec<usize>>;
@@ -52,6 +52,12 @@ pub fn weighted_multisource_partition(
         .map_err(number)
 }
 
+/// What moves and swaps take: the rows as a matrix, and the owners, untested.
+fn owned_matrix(rows: &[Vec<usize>], ranks: RankId, owners: &[RankId]) -> (Csr32Matrix, PartitionAssignment) {
+    let matrix = super::matrix_from_adjacency(rows).expect("rows make a matrix");
+    (matrix, PartitionAssignment::untested(ranks, owners.to_vec()))
+}
+
 /// Moves: the owners and the number of moves, or 9.
 pub fn refine_by_cut(
     rows: &[Vec<usize>],
@@ -61,8 +67,7 @@ pub fn refine_by_cut(
     imbalance_per_mille: u32,
     passes: usize,
 ) -> Result<(Vec<RankId>, usize), u32> {
-    let matrix = super::matrix_from_adjacency(rows).expect("rows make a matrix");
-    let mut assignment = PartitionAssignment::untested(ranks, owners.to_vec());
+    let (matrix, mut assignment) = owned_matrix(rows, ranks, owners);
     super::refine_by_cut(&matrix, weights, &mut assignment, imbalance_per_mille, passes)
         .map(|moves| (assignment.owners().to_vec(), moves))
         .map_err(number)
@@ -76,8 +81,7 @@ pub fn refine_fine_pair_swaps(
     imbalance_per_mille: u32,
     passes: usize,
 ) -> Result<(Vec<RankId>, usize), u32> {
-    let matrix = super::matrix_from_adjacency(rows).expect("rows make a matrix");
-    let mut assignment = PartitionAssignment::untested(ranks, owners.to_vec());
+    let (matrix, mut assignment) = owned_matrix(rows, ranks, owners);
     super::refine_fine_pair_swaps(&matrix, &mut assignment, imbalance_per_mille, passes)
         .map(|swaps| (assignment.owners().to_vec(), swaps))
         .map_err(number)
