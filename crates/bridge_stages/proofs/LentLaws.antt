@@ -11,11 +11,11 @@ use lib.Seq.{drop-cons}
 use lib.Dec.{leb, ltb, eqb}
 use borrow.Author.Tests.{eqb-true, eq-eqb, ne-eqb, ltb-false, leb-false}
 use Rattle.links.specs.Lists.{at, sum}
-use Rattle.links.specs.Parts.{part, putBack, Kept}
+use Rattle.links.specs.Parts.{part, copiedPart, Kept}
 use Rattle.links.specs.Graph.{vertexCount, badLists, listsCause, SoundLists}
 use Rattle.links.specs.Owners.{strayOwner}
 use Rattle.links.proofs.ListLaws.{split, or-l, or-r}
-use Rattle.links.proofs.PartLaws.{part-putBack, kept-putBack, kept-part-before}
+use Rattle.links.proofs.PartLaws.{kept-part-before, copied-kept, copied-part}
 use Rattle.links.proofs.SoundLaws.{sound-lists}
 use Rattle.links.proofs.OwnerLaws.{all-below}
 use Rattle.stages.specs.declared.level.HierarchyLevel.{HierarchyLevel}
@@ -140,25 +140,13 @@ module _ (offsets neighbors : List ℕ) (r : ℕ) (e : r ≡ listsCause offsets 
 
 -- ---- what copying leaves
 
-record Copied (w w′ : List ℕ) (a e : ℕ) (ys : List ℕ) : Type 0 where
-  here : part w′ a e ≡ ys
-  kept : Kept a e w′ w
-
-copied : (w w′ : List ℕ) (a n : ℕ) (ys : List ℕ) → a + n ≤ length w → length ys ≡ n → w′ ≡ putBack w a (a + n) ys → Copied w w′ a (a + n) ys
-copied w w′ a n ys h l e =
-    let z : length ys ≡ a + n - a = l ∙ omega arith in
-    record {
-      here = ap (λ (x : List ℕ). part x a (a + n)) e ∙ part-putBack w a (a + n) ys (omega arith) h z;
-      kept = rw e (kept-putBack w a (a + n) ys (omega arith) h z);
-    }
-
 pub level-laid
     : (w w₁ w₂ w₃ w₄ : List ℕ) (l : HierarchyLevel) (offsets neighbors weights owners : List ℕ)
     → LevelFits w l offsets neighbors weights owners
-    → w₁ ≡ putBack w (l .offsets) (l .offsets + (l .vertices + 1)) offsets
-    → w₂ ≡ putBack w₁ (l .neighbors) (l .neighbors + l .entries) neighbors
-    → w₃ ≡ putBack w₂ (l .weights) (l .weights + l .vertices) weights
-    → w₄ ≡ putBack w₃ (l .owners) (l .owners + l .vertices) owners
+    → w₁ ≡ copiedPart w (l .offsets) (l .offsets + (l .vertices + 1)) offsets
+    → w₂ ≡ copiedPart w₁ (l .neighbors) (l .neighbors + l .entries) neighbors
+    → w₃ ≡ copiedPart w₂ (l .weights) (l .weights + l .vertices) weights
+    → w₄ ≡ copiedPart w₃ (l .owners) (l .owners + l .vertices) owners
     → LevelLaid w w₄ l offsets neighbors weights owners
 level-laid w w₁ w₂ w₃ w₄ l offsets neighbors weights owners f e₁ e₂ e₃ e₄ =
     let d = f .parts in
@@ -167,27 +155,28 @@ level-laid w w₁ w₂ w₃ w₄ l offsets neighbors weights owners f e₁ e₂ 
     let b = l .neighbors in
     let g = l .weights in
     let q = l .owners in
-    let c₁ = copied w w₁ o (n + 1) offsets (omega (arith, d .offsets-in, d .neighbors-in, d .weights-in, d .map-in, d .owners-in)) (f .offsets-sized) e₁ in
-    let l₁ : length w₁ ≡ length w = c₁ .kept .same-length in
-    let c₂ = copied w₁ w₂ b (l .entries) neighbors (omega (arith, d .neighbors-in, d .weights-in, d .map-in, d .owners-in)) (f .neighbors-sized) e₂ in
-    let l₂ : length w₂ ≡ length w₁ = c₂ .kept .same-length in
-    let c₃ = copied w₂ w₃ g n weights (omega (arith, d .weights-in, d .map-in, d .owners-in)) (f .weights-sized) e₃ in
-    let l₃ : length w₃ ≡ length w₂ = c₃ .kept .same-length in
-    let c₄ = copied w₃ w₄ q n owners (omega (arith, d .owners-in)) (f .owners-sized) e₄ in
-    let after₂ : (u v : ℕ) → v ≤ b → part w₂ u v ≡ part w₁ u v = kept-part-before b (b + l .entries) w₂ w₁ (c₂ .kept) in
-    let after₃ : (u v : ℕ) → v ≤ g → part w₃ u v ≡ part w₂ u v = kept-part-before g (g + n) w₃ w₂ (c₃ .kept) in
-    let after₄ : (u v : ℕ) → v ≤ q → part w₄ u v ≡ part w₃ u v = kept-part-before q (q + n) w₄ w₃ (c₄ .kept) in
+    let f₁ : o + (n + 1) ≤ length w = omega (arith, d .offsets-in, d .neighbors-in, d .weights-in, d .map-in, d .owners-in) in
+    let k₁ : Kept o (o + (n + 1)) w₁ w = copied-kept w w₁ o (n + 1) offsets f₁ (f .offsets-sized) e₁ in
+    let f₂ : b + l .entries ≤ length w₁ = omega (arith, k₁ .same-length, d .neighbors-in, d .weights-in, d .map-in, d .owners-in) in
+    let k₂ : Kept b (b + l .entries) w₂ w₁ = copied-kept w₁ w₂ b (l .entries) neighbors f₂ (f .neighbors-sized) e₂ in
+    let f₃ : g + n ≤ length w₂ = omega (arith, k₁ .same-length, k₂ .same-length, d .weights-in, d .map-in, d .owners-in) in
+    let k₃ : Kept g (g + n) w₃ w₂ = copied-kept w₂ w₃ g n weights f₃ (f .weights-sized) e₃ in
+    let f₄ : q + n ≤ length w₃ = omega (arith, k₁ .same-length, k₂ .same-length, k₃ .same-length, d .owners-in) in
+    let k₄ : Kept q (q + n) w₄ w₃ = copied-kept w₃ w₄ q n owners f₄ (f .owners-sized) e₄ in
+    let after₂ : (u v : ℕ) → v ≤ b → part w₂ u v ≡ part w₁ u v = kept-part-before b (b + l .entries) w₂ w₁ k₂ in
+    let after₃ : (u v : ℕ) → v ≤ g → part w₃ u v ≡ part w₂ u v = kept-part-before g (g + n) w₃ w₂ k₃ in
+    let after₄ : (u v : ℕ) → v ≤ q → part w₄ u v ≡ part w₃ u v = kept-part-before q (q + n) w₄ w₃ k₄ in
     record {
       offsets-laid =
           after₄ o (o + (n + 1)) (omega (arith, d .offsets-in, d .neighbors-in, d .weights-in, d .map-in))
           ∙ after₃ o (o + (n + 1)) (omega (arith, d .offsets-in, d .neighbors-in))
           ∙ after₂ o (o + (n + 1)) (d .offsets-in)
-          ∙ c₁ .here;
+          ∙ copied-part w w₁ o (n + 1) offsets f₁ (f .offsets-sized) e₁;
       neighbors-laid =
-          after₄ b (b + l .entries) (omega (arith, d .neighbors-in, d .weights-in, d .map-in)) ∙ after₃ b (b + l .entries) (d .neighbors-in) ∙ c₂ .here;
-      weights-laid = after₄ g (g + n) (omega (arith, d .weights-in, d .map-in)) ∙ c₃ .here;
-      owners-laid = c₄ .here;
-      same-length = c₄ .kept .same-length ∙ l₃ ∙ l₂ ∙ l₁;
+          after₄ b (b + l .entries) (omega (arith, d .neighbors-in, d .weights-in, d .map-in)) ∙ after₃ b (b + l .entries) (d .neighbors-in) ∙ copied-part w₁ w₂ b (l .entries) neighbors f₂ (f .neighbors-sized) e₂;
+      weights-laid = after₄ g (g + n) (omega (arith, d .weights-in, d .map-in)) ∙ copied-part w₂ w₃ g n weights f₃ (f .weights-sized) e₃;
+      owners-laid = copied-part w₃ w₄ q n owners f₄ (f .owners-sized) e₄;
+      same-length = k₄ .same-length ∙ k₃ .same-length ∙ k₂ .same-length ∙ k₁ .same-length;
     }
 
 -- ---- the level in the work slice

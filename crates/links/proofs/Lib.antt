@@ -3,6 +3,7 @@ pub mod PartLaws
 pub mod BestLaws
 pub mod SoundLaws
 pub mod RowLaws
+pub mod HalvingLaws
 pub mod ListTestLaws
 pub mod OwnerLaws
 pub mod RangeLaws

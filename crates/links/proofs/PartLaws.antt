@@ -7,12 +7,12 @@ use mathlib.Core.Logic.{⊎-elim}
 use native.Mathlib.Omega.{arith}
 use native.Mathlib.Nat.{eq-or-lt-of-le, le-of-suc-le-suc}
 use native.Mathlib.Numerals.{add-one}
-use lib.Dec.{ltb}
-use lib.ListN.{length, getD, take, drop, set, length-append, length-take, length-drop, length-set, take-append-drop, List·getD-append}
-use lib.Seq.{take-suc-set, getD-set-other, take-at, drop-at, take-append-le, drop-append-le, length-take-le, drop-drop, take-take, getD-take, getD-drop, drop-set-add, take-set-lt, set-at, drop-cons, getD-append-add, ext-getD, take-add, drop-set-lt, take-set-le, getD-at, drop-length, take-suc}
-use borrow.Author.Tests.{ltb-true, ltb-false}
+use lib.Dec.{leb, ltb}
+use lib.ListN.{length, getD, take, drop, set, length-append, replicate, length-replicate, getD-replicate, length-take, length-drop, length-set, take-append-drop, drop-of-length-le, List·getD-append}
+use lib.Seq.{take-suc-set, getD-set-other, take-at, drop-at, take-append-le, drop-append-le, length-take-le, drop-drop, take-take, getD-take, getD-drop, drop-set-add, take-set-lt, set-at, drop-cons, getD-append-add, ext-getD, take-add, drop-set-lt, take-set-le, getD-at, drop-length, take-suc, take-all, drop-nil}
+use borrow.Author.Tests.{leb-true, leb-false, ltb-true, ltb-false}
 use Rattle.links.specs.Lists.{at}
-use Rattle.links.specs.Parts.{part, putBack, table, Kept}
+use Rattle.links.specs.Parts.{part, putBack, copied, filledPart, copiedPart, table, Kept}
 use Rattle.links.proofs.ListLaws.{split}
 
 -- ---- a part that is read
@@ -116,6 +116,12 @@ pub putBack-set : (w : List ℕ) (a e i v : ℕ) → a ≤ e → e ≤ length w 
 putBack-set w a e i v h k m =
     rw (← take-set-lt (e - a) (drop a w) i v m, ← drop-set-lt (e - a) (drop a w) i v m, take-append-drop (e - a) (set (drop a w) i v), ← drop-set-add a w i v, ← take-set-le a w (a + i) v (omega arith), take-append-drop a (set w (a + i) v))
 
+-- and so is one through the part from a on, wherever it goes
+pub putBack-set-rest : (w : List ℕ) (a i v : ℕ) → a ≤ length w → putBack w a (length w) (set (part w a (length w)) i v) ≡ set w (a + i) v
+putBack-set-rest w a i v h =
+    let l : length (drop a w) ≡ length w - a = length-drop a w in
+    rw (take-all (length w - a) (drop a w) (omega arith), drop-of-length-le (drop a w) {i = length w - a} (omega arith), append-nil, ← drop-set-add a w i v, ← take-set-le a w (a + i) v (omega arith), take-append-drop a (set w (a + i) v))
+
 -- a part of a part that comes back
 pub putBack-inner : (w : List ℕ) (a e b f : ℕ) (ys : List ℕ) → a ≤ e → e ≤ length w → b ≤ f → f ≤ e - a
     → putBack w a e (putBack (part w a e) b f ys) ≡ putBack w (a + b) (a + f) ys
@@ -184,6 +190,62 @@ pub copy-more : (s d : List ℕ) (i : ℕ) → i < length s → i < length d →
 copy-more s d i h k =
     let l : length (take i s) ≡ i = length-take-le i s (omega arith) in
     rw (drop-cons d i 0 k, set-at (take i s) (at d i) (drop (suc i) d) (at s i) i l, add-one i, take-suc s i 0 h, append-assoc (take i s) (at s i ∷ []) (drop (suc i) d))
+
+-- and its end
+pub copy-done : (s d : List ℕ) → take (min (length s) (length d)) s ++ drop (min (length s) (length d)) d ≡ copied d s
+unfolding copied
+copy-done s d = split (leb (length s) (length d))
+    (λ p. let e : min (length s) (length d) ≡ length s = omega (arith, leb-true (length s) (length d) p) in
+    rw (e, take-all (length s) s (omega arith), take-all (length d) s (leb-true (length s) (length d) p)))
+    (λ p. let e : min (length s) (length d) ≡ length d = omega (arith, leb-false (length s) (length d) p) in
+    rw (e, drop-of-length-le d {i = length d} (omega arith), drop-of-length-le d {i = length s} (omega (arith, leb-false (length s) (length d) p))))
+
+-- a part that reaches past the end is what there is of it, and so is what it leaves
+module _ (w : List ℕ) (a e : ℕ) where
+  less : (m n : ℕ) → m ≤ n → min m n ≡ m
+  less m n h = omega arith
+
+  clip-part : part w a (min e (length w)) ≡ part w a e
+  clip-part = split (leb e (length w))
+      (λ p. ap (part w a) (less e (length w) (leb-true e (length w) p)))
+      (λ p. let h : length w < e = leb-false e (length w) p in
+      take-all (min e (length w) - a) (drop a w) (simp length-drop (omega arith)) ∙ sym (take-all (e - a) (drop a w) (simp length-drop (omega arith))))
+
+  clip-rest : drop (min e (length w) - a) (drop a w) ≡ drop (e - a) (drop a w)
+  clip-rest = split (leb e (length w))
+      (λ p. ap (λ (t : ℕ). drop (t - a) (drop a w)) (less e (length w) (leb-true e (length w) p)))
+      (λ p. let h : length w < e = leb-false e (length w) p in
+      drop-of-length-le (drop a w) {i = min e (length w) - a} (simp length-drop (omega arith)) ∙ sym (drop-of-length-le (drop a w) {i = e - a} (simp length-drop (omega arith))))
+
+  pub clip : (f : List ℕ → List ℕ) → putBack w a (min e (length w)) (f (part w a (min e (length w)))) ≡ putBack w a e (f (part w a e))
+  clip f = rw (clip-part, clip-rest)
+
+  -- and one of which there is nothing leaves all as it was
+  pub clip-none : (f : List ℕ → List ℕ) → f [] ≡ [] → min e (length w) ≤ a → w ≡ putBack w a e (f (part w a e))
+  clip-none f z h =
+      let q : part w a (min e (length w)) ≡ [] = let o : min e (length w) - a ≡ 0 = omega arith in rw o in
+      let r : drop (min e (length w) - a) (drop a w) ≡ drop a w = let o : min e (length w) - a ≡ 0 = omega arith in rw o in
+      sym (take-append-drop a w) ∙ rw (sym clip-part ∙ q, z, sym clip-rest ∙ r)
+
+-- what is filled, and what is copied, in a part that is there
+pub filled-is : (w : List ℕ) (a e x : ℕ) → a ≤ e → e ≤ length w → filledPart w a e x ≡ putBack w a e (replicate (e - a) x)
+unfolding filledPart
+filled-is w a e x h k = ap (λ (n : ℕ). putBack w a e (replicate n x)) (length-part w a e h k)
+
+pub copied-is : (d s : List ℕ) → length s ≤ length d → copied d s ≡ s ++ drop (length s) d
+unfolding copied
+copied-is d s h = rw (take-all (length d) s h)
+
+pub copied-none : (s : List ℕ) → copied [] s ≡ []
+unfolding copied
+copied-none s = drop-nil (length s)
+
+pub copied-part-is : (w : List ℕ) (a e : ℕ) (s : List ℕ) → a ≤ e → e ≤ length w → length s ≡ e - a → copiedPart w a e s ≡ putBack w a e s
+unfolding copiedPart
+copied-part-is w a e s h k l =
+    let n : length (part w a e) ≡ length s = length-part w a e h k ∙ sym l in
+    let q : copied (part w a e) s ≡ s = copied-is (part w a e) s (omega arith) ∙ rw (drop-of-length-le (part w a e) {i = length s} (omega arith), append-nil) in
+    ap (putBack w a e) q
 
 -- a part that is half filled is as long as it was
 pub part-length : (w₀ : List ℕ) (a e : ℕ) (f : ℕ → ℕ) (i : ℕ) → a ≤ e → e ≤ length w₀ → i < e - a → length (table f i ++ drop i (part w₀ a e)) ≡ e - a
@@ -297,3 +359,35 @@ kept-is a e w w₀ h k =
     let s : a + (e - a) ≡ e = omega arith in
     let t : drop (e - a) (drop a w) ≡ drop (e - a) (drop a w₀) = rw (drop-drop (e - a) a w, drop-drop (e - a) a w₀, s) (kept-drop a e w w₀ k) in
     sym (putBack-part w a e) ∙ rw (kept-take a e w w₀ k, t)
+
+-- ---- a part that was filled, and one that was copied to
+
+module _ (w w′ : List ℕ) (a n x : ℕ) (h : a + n ≤ length w) (e : w′ ≡ filledPart w a (a + n) x) where
+  e′ : w′ ≡ putBack w a (a + n) (replicate (a + n - a) x)
+  e′ = e ∙ filled-is w a (a + n) x (omega arith) h
+
+  pub filled-kept : Kept a (a + n) w′ w
+  filled-kept = rw e′ (kept-putBack w a (a + n) (replicate (a + n - a) x) (omega arith) h (length-replicate (a + n - a) x))
+
+  pub filled-part : part w′ a (a + n) ≡ replicate n x
+  filled-part =
+      let z : a + n - a ≡ n = omega arith in
+      ap (λ (v : List ℕ). part v a (a + n)) e′
+      ∙ part-putBack w a (a + n) (replicate (a + n - a) x) (omega arith) h (length-replicate (a + n - a) x)
+      ∙ ap (λ (m : ℕ). replicate m x) z
+
+  pub filled-at : (i : ℕ) → i < n → at w′ (a + i) ≡ x
+  filled-at i k = sym (getD-part w′ a (a + n) i (omega arith)) ∙ ap (λ (v : List ℕ). at v i) filled-part ∙ getD-replicate n i x 0 k
+
+module _ (w w′ : List ℕ) (a n : ℕ) (s : List ℕ) (h : a + n ≤ length w) (l : length s ≡ n) (e : w′ ≡ copiedPart w a (a + n) s) where
+  s′ : length s ≡ a + n - a
+  s′ = l ∙ omega arith
+
+  c′ : w′ ≡ putBack w a (a + n) s
+  c′ = e ∙ copied-part-is w a (a + n) s (omega arith) h s′
+
+  pub copied-kept : Kept a (a + n) w′ w
+  copied-kept = rw c′ (kept-putBack w a (a + n) s (omega arith) h s′)
+
+  pub copied-part : part w′ a (a + n) ≡ s
+  copied-part = ap (λ (v : List ℕ). part v a (a + n)) c′ ∙ part-putBack w a (a + n) s (omega arith) h s′

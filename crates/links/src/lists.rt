@@ -2,10 +2,8 @@
 use crate::parts::index;
 use crate::parts::wide;
 ghost use mathlib.Core.Path.{_≡_};
-ghost use mathlib.Core.Bool.{true};
-ghost use Rattle.links.specs.Lists.{elem};
-ghost use Rattle.links.specs.Graph.{vertexCount, neighborsOf, neighborsCause, strictlyRising, neverFalling, badOffsets, ListsTested};
-ghost use Rattle.links.specs.ListTest.{validRow, validRows, mirroredRow, mirroredRows, Rising};
+ghost use Rattle.links.specs.Graph.{vertexCount, neighborsOf, neighborsCause, neverFalling, badOffsets, ListsTested};
+ghost use Rattle.links.specs.ListTest.{validRow, validRows, mirroredRow, mirroredRows, Rising, found};
 
 // How many vertices the offsets have: their number less 1, 0 if there are none.
 // Rules out: one vertex where there are no offsets; a vertex for the last offset.
@@ -52,11 +50,10 @@ pub fn neighbors_of<'a, 'b>(offsets: &'b [u32], neighbors: &'a [u32], v: u64) ->
     &neighbors[a..e]
 }
 
-// Whether a rising row has x: by halves.
+// Whether a search by halves finds x; in a rising row, whether x is there.
 // Rules out: a number of the row's last half missed; one found that is not there.
 pub fn holds(row: &[u32], x: usize) -> bool
-    requires { ⌜ strictlyRising (now row) ≡ true ⌝ }
-    ensures { λ r. ⌜ r ≡ elem x (now (row .entry)) ⌝ }
+    ensures { λ r. ⌜ r ≡ found (now (row .entry)) x ⌝ }
 {
     let mut low: usize = 0;
     let mut high: usize = row.len();

@@ -7,14 +7,14 @@ use native.Mathlib.Omega.{arith}
 use lib.ListN.{length, take, drop, replicate, length-append}
 use lib.Seq.{length-take-le, drop-at}
 use Rattle.links.specs.Lists.{at, All, foldl}
-use Rattle.links.specs.Parts.{Kept, putBack}
+use Rattle.links.specs.Parts.{Kept, filledPart}
 use Rattle.links.specs.Loads.{Balance, balance}
 use Rattle.links.specs.Graph.{vertexCount, cutEntries, volume}
 use Rattle.links.specs.Options.{addedMoves, measuredStats}
 use Rattle.links.specs.declared.options.AbtmMultilevelOptions.{AbtmMultilevelOptions}
 use Rattle.links.specs.declared.options.AbtmMultilevelStats.{AbtmMultilevelStats}
 use Rattle.links.proofs.RowLaws.{all-place}
-use Rattle.links.proofs.PartLaws.{length-part, kept-part-before}
+use Rattle.links.proofs.PartLaws.{length-part, kept-part-before, filled-is}
 use Rattle.stages.specs.Level.{rowsAt, weightsAt, ownersAt, Ready, balanceIn}
 use Rattle.stages.specs.Moves.{after}
 use Rattle.stages.specs.Swaps.{refineFinePairSwaps}
@@ -220,15 +220,15 @@ module _ (c : Call) (z : earlyCause c ≡ 0) where
     pub whole-divisible : Divisible (withWork c (length (take (need - 0) work))) (take (need - 0) work)
     whole-divisible = rw part-length (record { passed = exact-passes c z; exact = part-length })
 
-    pub whole-given-back : (x : List ℕ) → length x ≡ length (take (need - 0) work) → need ≤ length (x ++ drop (need - 0) work)
+    whole-given-back : (x : List ℕ) → length x ≡ length (take (need - 0) work) → need ≤ length (x ++ drop (need - 0) work)
     whole-given-back x e = omega (arith, e ∙ part-length, length-append x (drop (need - 0) work))
 
     -- work is zeroed, and what is beyond it untouched
-    pub whole-zeroed : (x : List ℕ) → length x ≡ length (take (need - 0) work) → putBack (x ++ drop (need - 0) work) 0 need (replicate (need - 0) 0) ≡ replicate (needOf c) 0 ++ drop (needOf c) work
+    pub whole-zeroed : (x : List ℕ) → length x ≡ length (take (need - 0) work) → filledPart (x ++ drop (need - 0) work) 0 need 0 ≡ replicate (needOf c) 0 ++ drop (needOf c) work
     whole-zeroed x e =
         let n : need - 0 ≡ needOf c = omega arith in
         let m : length x ≡ needOf c = e ∙ part-length in
-        rw (n, drop-at x (drop (needOf c) work) (needOf c) m)
+        filled-is (x ++ drop (need - 0) work) 0 need 0 (omega arith) (whole-given-back x e) ∙ rw (n, drop-at x (drop (needOf c) work) (needOf c) m)
 
     pub whole-partitioned
         : (owners owners′ work′ : List ℕ) (a : Answer)

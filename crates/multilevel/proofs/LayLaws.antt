@@ -3,21 +3,21 @@ use Prim.Native.Nat.{ℕ, zero, suc, _+_, _-_, _≤_}
 use mathlib.Core.Path.{_≡_, refl, ap, _∙_}
 use mathlib.Core.List.{List}
 use native.Mathlib.Omega.{arith}
-use lib.ListN.{length, replicate, length-replicate}
+use lib.ListN.{length, replicate}
 use Rattle.links.specs.Lists.{sum}
-use Rattle.links.specs.Parts.{part, putBack}
+use Rattle.links.specs.Parts.{filledPart, copiedPart, Kept}
 use Rattle.links.specs.Graph.{SoundLists}
 use Rattle.stages.specs.Level.{Laid, Ready}
 use Rattle.stages.specs.declared.level.HierarchyLevel.{HierarchyLevel}
-use Rattle.links.proofs.PartLaws.{length-putBack, part-putBack, part-putBack-before, kept-refl, kept-putBack-in}
+use Rattle.links.proofs.PartLaws.{kept-part-before, kept-trans, kept-wide, filled-kept, filled-part, copied-kept, copied-part}
 use Rattle.multilevel.specs.Room.{SiteFits, SiteLaid}
 
 pub site-laid
     : (w w₁ w₂ w₃ : List ℕ) (l : HierarchyLevel) (offsets neighbors : List ℕ)
     → SiteFits w l offsets neighbors
-    → w₁ ≡ putBack w (l .offsets) (l .offsets + (l .vertices + 1)) offsets
-    → w₂ ≡ putBack w₁ (l .neighbors) (l .neighbors + l .entries) neighbors
-    → w₃ ≡ putBack w₂ (l .weights) (l .weights + l .vertices) (replicate (l .weights + l .vertices - l .weights) 1)
+    → w₁ ≡ copiedPart w (l .offsets) (l .offsets + (l .vertices + 1)) offsets
+    → w₂ ≡ copiedPart w₁ (l .neighbors) (l .neighbors + l .entries) neighbors
+    → w₃ ≡ filledPart w₂ (l .weights) (l .weights + l .vertices) 1
     → SiteLaid w w₃ l offsets neighbors
 site-laid w w₁ w₂ w₃ l offsets neighbors s e₁ e₂ e₃ =
     let n = l .vertices in
@@ -25,49 +25,25 @@ site-laid w w₁ w₂ w₃ l offsets neighbors s e₁ e₂ e₃ =
     let b = l .neighbors in
     let g = l .weights in
     let d = s .laid in
-    let ones : List ℕ = replicate (g + n - g) 1 in
-    let s₁ : length offsets ≡ o + (n + 1) - o = s .offsets-sized ∙ omega arith in
-    let s₂ : length neighbors ≡ b + l .entries - b = s .neighbors-sized ∙ omega arith in
-    let s₃ : length ones ≡ g + n - g = length-replicate (g + n - g) 1 in
     let f₁ : o + (n + 1) ≤ length w = omega (arith, d .offsets-in, d .neighbors-in, d .weights-in, d .map-in, d .owners-in) in
-    let l₁ : length w₁ ≡ length w = ap length e₁ ∙ length-putBack w o (o + (n + 1)) offsets (omega arith) f₁ s₁ in
-    let f₂ : b + l .entries ≤ length w₁ = omega (arith, d .neighbors-in, d .weights-in, d .map-in, d .owners-in) in
-    let l₂ : length w₂ ≡ length w₁ = ap length e₂ ∙ length-putBack w₁ b (b + l .entries) neighbors (omega arith) f₂ s₂ in
-    let f₃ : g + n ≤ length w₂ = omega (arith, d .weights-in, d .map-in, d .owners-in) in
-    let later : (u v : ℕ) → v ≤ g → part w₃ u v ≡ part w₂ u v =
-    λ u v h. ap (λ (x : List ℕ). part x u v) e₃ ∙ part-putBack-before w₂ g (g + n) ones (omega arith) f₃ s₃ u v h in
-    let e : g + n - g ≡ n = omega arith in
+    let k₁ : Kept o (o + (n + 1)) w₁ w = copied-kept w w₁ o (n + 1) offsets f₁ (s .offsets-sized) e₁ in
+    let f₂ : b + l .entries ≤ length w₁ = omega (arith, k₁ .same-length, d .neighbors-in, d .weights-in, d .map-in, d .owners-in) in
+    let k₂ : Kept b (b + l .entries) w₂ w₁ = copied-kept w₁ w₂ b (l .entries) neighbors f₂ (s .neighbors-sized) e₂ in
+    let f₃ : g + n ≤ length w₂ = omega (arith, k₁ .same-length, k₂ .same-length, d .weights-in, d .map-in, d .owners-in) in
+    let k₃ : Kept g (g + n) w₃ w₂ = filled-kept w₂ w₃ g n 1 f₃ e₃ in
     record {
       offsets-laid =
-          later o (o + (n + 1)) (omega (arith, d .offsets-in, d .neighbors-in))
-          ∙ ap (λ (x : List ℕ). part x o (o + (n + 1))) e₂
-          ∙ part-putBack-before w₁ b (b + l .entries) neighbors (omega arith) f₂ s₂ o (o + (n + 1)) (d .offsets-in)
-          ∙ ap (λ (x : List ℕ). part x o (o + (n + 1))) e₁
-          ∙ part-putBack w o (o + (n + 1)) offsets (omega arith) f₁ s₁;
+          kept-part-before g (g + n) w₃ w₂ k₃ o (o + (n + 1)) (omega (arith, d .offsets-in, d .neighbors-in))
+          ∙ kept-part-before b (b + l .entries) w₂ w₁ k₂ o (o + (n + 1)) (d .offsets-in)
+          ∙ copied-part w w₁ o (n + 1) offsets f₁ (s .offsets-sized) e₁;
       neighbors-laid =
-          later b (b + l .entries) (d .neighbors-in)
-          ∙ ap (λ (x : List ℕ). part x b (b + l .entries)) e₂
-          ∙ part-putBack w₁ b (b + l .entries) neighbors (omega arith) f₂ s₂;
-      weights-laid =
-          ap (λ (x : List ℕ). part x g (g + n)) e₃
-          ∙ part-putBack w₂ g (g + n) ones (omega arith) f₃ s₃
-          ∙ ap (λ (x : ℕ). replicate x 1) e;
+          kept-part-before g (g + n) w₃ w₂ k₃ b (b + l .entries) (d .neighbors-in)
+          ∙ copied-part w₁ w₂ b (l .entries) neighbors f₂ (s .neighbors-sized) e₂;
+      weights-laid = filled-part w₂ w₃ g n 1 f₃ e₃;
       frame =
-          rw e₃
-          (kept-putBack-in o (g + n) g (g + n) w₂ w ones
-          (rw e₂
-          (kept-putBack-in o (g + n) b (b + l .entries) w₁ w neighbors
-          (rw e₁ (kept-putBack-in o (g + n) o (o + (n + 1)) w w offsets (kept-refl o (g + n) w) (omega arith) (omega arith) (omega (arith, d .offsets-in, d .neighbors-in)) f₁ s₁))
-          (omega (arith, d .offsets-in))
-          (omega arith)
-          (omega (arith, d .neighbors-in))
-          f₂
-          s₂))
-          (omega (arith, d .offsets-in, d .neighbors-in))
-          (omega arith)
-          (omega arith)
-          f₃
-          s₃);
+          kept-trans o (g + n) w₃ w₂ w (kept-wide g (g + n) o (g + n) w₃ w₂ (omega (arith, d .offsets-in, d .neighbors-in)) (omega arith) k₃)
+          (kept-trans o (g + n) w₂ w₁ w (kept-wide b (b + l .entries) o (g + n) w₂ w₁ (omega (arith, d .offsets-in)) (omega (arith, d .neighbors-in)) k₂)
+          (kept-wide o (o + (n + 1)) o (g + n) w₁ w (omega arith) (omega (arith, d .offsets-in, d .neighbors-in)) k₁));
     }
 
 -- as many ones as vertices

@@ -5,16 +5,16 @@ use mathlib.Core.Bool.{Bool, true, false, not, _&&_, _||_, cond}
 use mathlib.Core.List.{List, [], _∷_, map}
 use native.Mathlib.Numerals.{add-one}
 use native.Mathlib.Omega.{arith}
-use lib.ListN.{length, set, take, drop, replicate, length-map, length-replicate, getD-replicate}
+use lib.ListN.{length, set, take, drop, length-map}
 use lib.Seq.{take-all, getD-set-same, getD-set-other}
 use lib.Dec.{eqb}
 use borrow.Author.Tests.{eq-eqb, ne-eqb, eqb-true, eqb-false, not-true, not-false}
 use Rattle.links.specs.Lists.{at, any, range, sum, elem}
-use Rattle.links.specs.Parts.{part, putBack, Kept}
+use Rattle.links.specs.Parts.{part, Kept}
 use Rattle.links.specs.Graph.{row, rowsOf, neighborsOf, vertices, cutEntries, foreignNeighbors, volume, Sound}
 use Rattle.links.proofs.ListLaws.{split, eqb-sym, and-l, and-r, and-i, or-true, or-false, iff-eq, tally, count, count-cons, count-length, count-drop, all-in, all-range, length-range, any-of, to-any, elem-range, elem-map, elem-take, none-filter, total, total-ext, total-add, total-zero, total-point}
 use Rattle.links.proofs.RangeLaws.{filter-ext}
-use Rattle.links.proofs.PartLaws.{length-part, getD-part, getD-putBack-in, kept-refl, kept-trans, kept-set, kept-putBack}
+use Rattle.links.proofs.PartLaws.{length-part, getD-part, kept-refl, kept-trans, kept-set}
 use Rattle.links.proofs.RowLaws.{all-place, length-rows, row-query, length-row, offsets-fit}
 use Rattle.stages.specs.Level.{offsetsAt, neighborsAt, rowsAt, ownersAt, Ready}
 use Rattle.stages.specs.declared.level.HierarchyLevel.{HierarchyLevel}
@@ -484,22 +484,6 @@ module _ (w₀ : List ℕ) (l : HierarchyLevel) (seen ranks : ℕ) (g : Measurab
         }
 
 -- ---- the whole
-
--- marks that are cleared
-pub cleared
-    : (w w′ : List ℕ) (seen ranks : ℕ)
-    → seen + ranks ≤ length w
-    → w′ ≡ putBack w seen (seen + ranks) (replicate (seen + ranks - seen) 0)
-    → Kept seen (seen + ranks) w′ w × Marked w′ seen ranks 0
-cleared w w′ seen ranks h e =
-    let zeros : List ℕ = replicate (seen + ranks - seen) 0 in
-    let n : length zeros ≡ seen + ranks - seen = length-replicate (seen + ranks - seen) 0 in (
-      rw e (kept-putBack w seen (seen + ranks) zeros (omega arith) h n),
-      λ r k.
-          let z : at w′ (seen + r) ≡ 0 =
-          ap (λ (y : List ℕ). at y (seen + r)) e ∙ getD-putBack-in w seen (seen + ranks) zeros (omega arith) h n r (omega arith) ∙ getD-replicate (seen + ranks - seen) r 0 0 (omega arith) in
-          omega arith,
-    )
 
 pub measured
     : (w w₁ w₂ : List ℕ) (l : HierarchyLevel) (seen ranks : ℕ) (r : Measures)

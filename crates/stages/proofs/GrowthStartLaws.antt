@@ -9,10 +9,10 @@ use lib.ListN.{length, getD, set, drop, replicate, length-replicate, getD-replic
 use lib.Seq.{getD-set-other, drop-cons, drop-nil, getD-drop}
 use borrow.Author.Tests.{eqb-true, eqb-false}
 use Rattle.links.specs.Lists.{at, unassigned, filter, foldl, sum}
-use Rattle.links.specs.Parts.{part, putBack, Kept}
+use Rattle.links.specs.Parts.{part, filledPart, Kept}
 use Rattle.links.specs.Graph.{row, load}
 use Rattle.links.proofs.ListLaws.{split, and-l, count-length}
-use Rattle.links.proofs.PartLaws.{getD-part, getD-putBack-in, part-putBack, kept-putBack, kept-part-before}
+use Rattle.links.proofs.PartLaws.{getD-part, kept-part-before, filled-kept, filled-at, filled-part}
 use Rattle.stages.specs.Coarsen.{byDegree}
 use Rattle.stages.specs.Growth.{Growing, Growth, seeded, seedOwners, grown, weightedMultisource, unowned, rounds, afterTurn, restartCount}
 use Rattle.stages.specs.FrontierCode.{cells, front, opens, Memory, memory, rowsIn, weightsIn, memoryIn, GrowthLaid, Outside, cellsOf, frontOf, Good, Stands, owning, begun, GrowthReady, Stored}
@@ -28,27 +28,6 @@ use Rattle.stages.proofs.GrowthSliceLaws.{rows-all, rows-same, weights-
 
 -- ---- nobody owns a group
 
--- a part that is filled with x
-module _ (w w′ : List ℕ) (a n x : ℕ) (h : a + n ≤ length w) (e : w′ ≡ putBack w a (a + n) (replicate (a + n - a) x)) where
-  size : length (replicate (a + n - a) x) ≡ a + n - a
-  size = length-replicate (a + n - a) x
-
-  filled-kept : Kept a (a + n) w′ w
-  filled-kept = rw e (kept-putBack w a (a + n) (replicate (a + n - a) x) (omega arith) h size)
-
-  filled-at : (i : ℕ) → i < n → at w′ (a + i) ≡ x
-  filled-at i k =
-      ap (λ (v : List ℕ). at v (a + i)) e
-      ∙ getD-putBack-in w a (a + n) (replicate (a + n - a) x) (omega arith) h size i (omega arith)
-      ∙ getD-replicate (a + n - a) i x 0 (omega arith)
-
-  filled-part : part w′ a (a + n) ≡ replicate n x
-  filled-part =
-      let z : a + n - a ≡ n = omega arith in
-      ap (λ (v : List ℕ). part v a (a + n)) e
-      ∙ part-putBack w a (a + n) (replicate (a + n - a) x) (omega arith) h size
-      ∙ ap (λ (m : ℕ). replicate m x) z
-
 sown-after : {l : GrowthRoom} {w w′ : List ℕ} → Sown l w → Outside l w w′ → Sown l w′
 sown-after {l} S o =
     let L = S .laid in
@@ -61,9 +40,9 @@ sown-after {l} S o =
     }
 
 module _ {l : GrowthRoom} {w w₁ w₂ w₃ : List ℕ} (S : Sown l w)
-    (e₁ : w₁ ≡ putBack w (l .level .owners) (l .level .owners + l .level .vertices) (replicate (l .level .owners + l .level .vertices - l .level .owners) unassigned))
-    (e₂ : w₂ ≡ putBack w₁ (l .loads) (l .loads + l .ranks) (replicate (l .loads + l .ranks - l .loads) 0))
-    (e₃ : w₃ ≡ putBack w₂ (l .counts) (l .counts + l .ranks) (replicate (l .counts + l .ranks - l .counts) 0)) where
+    (e₁ : w₁ ≡ filledPart w (l .level .owners) (l .level .owners + l .level .vertices) unassigned)
+    (e₂ : w₂ ≡ filledPart w₁ (l .loads) (l .loads + l .ranks) 0)
+    (e₃ : w₃ ≡ filledPart w₂ (l .counts) (l .counts + l .ranks) 0) where
   abbrev a₁ : ℕ
   a₁ = l .level .owners
 

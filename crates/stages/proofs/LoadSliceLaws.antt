@@ -4,32 +4,20 @@ use mathlib.Core.Path.{_≡_, refl, ap, _∙_}
 use mathlib.Core.Bool.{cond}
 use mathlib.Core.List.{List}
 use native.Mathlib.Omega.{arith}
-use lib.ListN.{length, set, drop, replicate, length-replicate, getD-replicate}
+use lib.ListN.{length, set, drop}
 use lib.Seq.{getD-set-same, getD-set-other}
 use lib.Dec.{eqb}
 use borrow.Author.Tests.{eq-eqb, eqb-true, eqb-false}
 use Rattle.links.specs.Lists.{at}
-use Rattle.links.specs.Parts.{putBack, Kept}
+use Rattle.links.specs.Parts.{Kept}
 use Rattle.links.specs.Graph.{load}
 use Rattle.links.proofs.ListLaws.{split}
-use Rattle.links.proofs.PartLaws.{kept-set, kept-refl, kept-putBack, getD-putBack-in}
+use Rattle.links.proofs.PartLaws.{kept-set, kept-refl}
 use Rattle.stages.specs.Level.{weightsAt, ownersAt, Ready}
 use Rattle.stages.specs.declared.level.HierarchyLevel.{HierarchyLevel}
 use Rattle.stages.specs.MovesCode.{Clear, Roomed, Loaded}
 use Rattle.stages.proofs.LoadSetLaws.{load-next, load-end, load-sum}
 use Rattle.stages.proofs.MovesSliceLaws.{weights-all, owners-all, weights-kept, owners-kept, ready-kept, ready-by}
-
--- numbers that were set to 0
-pub cleared : (w w′ : List ℕ) (a n : ℕ) → a + n ≤ length w → w′ ≡ putBack w a (a + n) (replicate (a + n - a) 0) → Clear w′ a n × Kept a (a + n) w′ w
-cleared w w′ a n h e =
-    let zs : List ℕ = replicate (a + n - a) 0 in
-    let l : length zs ≡ a + n - a = length-replicate (a + n - a) 0 in (
-      λ i m.
-          ap (λ (x : List ℕ). at x (a + i)) e
-          ∙ getD-putBack-in w a (a + n) zs (omega arith) h l i (omega arith)
-          ∙ getD-replicate (a + n - a) i 0 0 (omega arith),
-      rw e (kept-putBack w a (a + n) zs (omega arith) h l),
-    )
 
 -- added up as far as vertex v: with what is left, the loads
 pub record WeighTo (w₀ w : List ℕ) (l : HierarchyLevel) (loads ranks v : ℕ) : Type 0 where

@@ -6,15 +6,15 @@ use mathlib.Core.List.{List, [], _∷_, _++_}
 use mathlib.Core.Option.{Option, none, some, Option·getD}
 use native.Mathlib.Omega.{arith}
 use lib.Dec.{eqb, ltb}
-use lib.ListN.{length, set, replicate, length-replicate, getD-replicate}
+use lib.ListN.{length, set}
 use lib.Seq.{getD-set-other, ext-getD}
 use borrow.Author.Tests.{eq-eqb, ne-eqb, eqb-true, eqb-false, lt-ltb, le-ltb}
 use Rattle.links.specs.Lists.{at, All, unassigned, filter, best, bestFrom, range, elem, above}
 use Rattle.links.specs.Best.{held, stepBest}
-use Rattle.links.specs.Parts.{part, putBack, Kept}
+use Rattle.links.specs.Parts.{part, filledPart, Kept}
 use Rattle.links.specs.Graph.{row, degree, vertices, vertexCount, Sound}
 use Rattle.links.proofs.ListLaws.{split, all-filter, all-range, filter-none, best-none, best-all, best-kept, not-of, iff-eq}
-use Rattle.links.proofs.PartLaws.{length-part, getD-part, getD-putBack-in, kept-putBack, part-set-end, kept-set, kept-trans, kept-wide, kept-part-after}
+use Rattle.links.proofs.PartLaws.{length-part, getD-part, part-set-end, kept-set, kept-trans, kept-wide, kept-part-after, filled-kept, filled-at}
 use Rattle.links.proofs.RowLaws.{length-row, row-at, offsets-fit}
 use Rattle.stages.specs.Level.{Ready, offsetsAt, neighborsAt, rowsAt}
 use Rattle.stages.specs.Seeds.{distances, nextSeed, farthestSeeds, farther}
@@ -222,7 +222,7 @@ module _ {w : List ℕ} {l : HierarchyLevel} {s : ℕ} (R : Ready w l s) (room :
 
 -- every vertex is unreachable
 abbrev pub unreached : List ℕ → HierarchyLevel → ℕ → List ℕ
-unreached w l s = putBack w s (s + l .vertices) (replicate (s + l .vertices - s) unassigned)
+unreached w l s = filledPart w s (s + l .vertices) unassigned
 
 module _ {w₀ : List ℕ} {l : HierarchyLevel} {s k : ℕ} (P : Seedable w₀ l s k) where
   abbrev rows : List (List ℕ)
@@ -234,7 +234,7 @@ module _ {w₀ : List ℕ} {l : HierarchyLevel} {s k : ℕ} (P : Seedable w₀ l
   n-is : length (rowsAt w₀ l) ≡ l .vertices
   n-is = lies₀ .size
 
-  pub distances-fit : s + l .vertices ≤ length w₀
+  distances-fit : s + l .vertices ≤ length w₀
   distances-fit = omega (arith, P .room)
 
   pub seeded-none
@@ -244,19 +244,12 @@ module _ {w₀ : List ℕ} {l : HierarchyLevel} {s k : ℕ} (P : Seedable w₀ l
   unfolding farthestSeeds
   seeded-none w e =
       let z : s + 2 * l .vertices + 0 - (s + 2 * l .vertices) ≡ 0 = omega arith in
-      let m : s + l .vertices - s ≡ l .vertices = omega arith in
-      let far : List ℕ = replicate (s + l .vertices - s) unassigned in
-      let far-length : length far ≡ s + l .vertices - s = length-replicate (s + l .vertices - s) unassigned in
-      let out : (v : ℕ) → v < l .vertices → from w s v ≡ unassigned =
-      λ v h. ap (λ (x : List ℕ). from x s v) e
-      ∙ getD-putBack-in w₀ s (s + l .vertices) far (omega arith) distances-fit far-length v (omega arith)
-      ∙ getD-replicate (s + l .vertices - s) v unassigned 0 (omega arith) in
       record {
         chosen = rw z;
-        distance = λ v h. out v (omega (arith, n-is)) ∙ none-reached rows (lies₀ .sound) (lies₀ .few) v h;
+        distance = λ v h. filled-at w₀ w s (l .vertices) unassigned distances-fit e v (omega (arith, n-is)) ∙ none-reached rows (lies₀ .sound) (lies₀ .few) v h;
         kept =
-            rw e (kept-wide s (s + l .vertices) s (s + 2 * l .vertices + k) (putBack w₀ s (s + l .vertices) far) w₀ (omega arith) (omega arith)
-            (kept-putBack w₀ s (s + l .vertices) far (omega arith) distances-fit far-length));
+            kept-wide s (s + l .vertices) s (s + 2 * l .vertices + k) w w₀ (omega arith) (omega arith)
+            (filled-kept w₀ w s (l .vertices) unassigned distances-fit e);
       }
 
   module _ {w : List ℕ} {r : ℕ} (K : SeededTo (rowsAt w₀ l) w₀ w l s k r) where

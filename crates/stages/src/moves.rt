@@ -78,7 +78,7 @@ pub fn tally(work: &mut [u32], l: HierarchyLevel, tallies: usize, ranks: usize, 
     while i < end {
         let r = owner_at(&work[..], l, i);
         let t = work[tallies + r];
-        store_part(work, tallies, tallies + ranks, r, t + 1);
+        store_part(work, tallies, r, t + 1);
         i += 1;
     }
 }
@@ -92,7 +92,7 @@ pub fn untally(work: &mut [u32], l: HierarchyLevel, tallies: usize, ranks: usize
     let mut i = row_start(&work[..], l, v);
     while i < end {
         let r = owner_at(&work[..], l, i);
-        store_part(work, tallies, tallies + ranks, r, 0);
+        store_part(work, tallies, r, 0);
         i += 1;
     }
 }
@@ -115,7 +115,7 @@ pub fn weigh(work: &mut [u32], l: HierarchyLevel, loads: usize, ranks: usize)
     while v < n {
         let r = owner_in(&work[..], l, v);
         let x = work[loads + r] + weight_in(&work[..], l, v);
-        store_part(work, loads, loads + ranks, r, x);
+        store_part(work, loads, r, x);
         v += 1;
     }
 }
@@ -254,12 +254,10 @@ fn shift(work: &mut [u32], l: HierarchyLevel, scratch: usize, ranks: usize, v: u
     let home = owner_in(&work[..], l, v);
     let weight = weight_in(&work[..], l, v);
     let less = work[scratch + home] - weight;
-    store_part(work, scratch, scratch + ranks, home, less);
+    store_part(work, scratch, home, less);
     let more = work[scratch + rank] + weight;
-    store_part(work, scratch, scratch + ranks, rank, more);
-    let owners = l.owners;
-    let end = owners + l.vertices;
-    store_part(work, owners, end, v, rank as u32);
+    store_part(work, scratch, rank, more);
+    store_part(work, l.owners, v, rank as u32);
 }
 
 // v's turn: 1 if it moved.

@@ -1,36 +1,24 @@
--- The invariant: all before low is below x, and all from high on above it. Assumes nothing.
+-- The invariant: from low up to high the search finds what it finds in the whole row. Assumes nothing.
 use Prim.Native.Nat.{ℕ, _+_, _-_, _/_, _≤_, _<_}
 use mathlib.Core.Path.{_≡_, sym, _∙_}
-use mathlib.Core.Bool.{true}
-use mathlib.Core.List.{List}
-use Rattle.links.specs.Graph.{strictlyRising}
 use native.Mathlib.Omega.{arith}
 use lib.ListN.{length}
-use lib.Dec.{ltb, eqb}
-use borrow.Author.Tests.{ltb-true, ltb-false, eqb-true, eqb-false}
 use Rattle.links.specs.Lists.{at}
-use Rattle.links.proofs.ListLaws.{split}
-use Rattle.links.proofs.RowLaws.{rises-by, elem-place, elem-nowhere}
+use Rattle.links.specs.ListTest.{foundBetween, found}
+use Rattle.links.proofs.HalvingLaws.{found-whole, found-none, found-here, found-later, found-earlier}
 use borrow.Author.Needs.{needs}
 use Rattle.links.proofs.lists.holds.Statement.{statement}
 use Rattle.links.proofs.lists.holds.Tie as tie
 
 abbrev Inv-loop : tie.InvT-loop
 Inv-loop row x low₀ high₀ low high =
-    (low ≤ high) × (high ≤ length row) × ((k : ℕ) → k < low → at row k < x) × ((k : ℕ) → high ≤ k → k < length row → x < at row k)
+    (low ≤ high) × (high ≤ length row) × (foundBetween row x (high - low) low high ≡ found row x)
 
 abbrev μ-loop : tie.MeasureT-loop
 μ-loop row x low₀ high₀ low high = high - low
 
--- what is below x up to the middle, and above x from there on, in a rising row
-below : (row : List ℕ) (x m k : ℕ) → strictlyRising row ≡ true → m < length row → at row m < x → k < m + 1 → at row k < x
-below row x m k r l h n = split (eqb k m) (λ p. rw (eqb-true k m p) h) (λ p. let d = eqb-false k m p in omega (arith, rises-by row r k m (omega arith) l))
-
-above : (row : List ℕ) (x m k : ℕ) → strictlyRising row ≡ true → x < at row m → m ≤ k → k < length row → x < at row k
-above row x m k r h n l = split (eqb k m) (λ p. rw (eqb-true k m p) h) (λ p. let d = eqb-false k m p in omega (arith, rises-by row r m k (omega arith) l))
-
 loop-holds : tie.Need-loop-holds Inv-loop μ-loop
-loop-holds c = (omega arith, omega arith, λ k h. absurd (omega arith), λ k h l. absurd (omega arith))
+loop-holds c = (omega arith, omega arith, found-whole (c .before .args .row .now) (c .before .args .x))
 
 sub-middle : tie.Need-sub-middle Inv-loop μ-loop
 sub-middle c = search needs
@@ -51,7 +39,7 @@ returns : tie.Need-returns Inv-loop μ-loop
 returns c =
     let l = c .before .before .before .before .loop in
     let a = c .before .before .before .before .before .before .args in
-    sym (elem-place (a .row .now) (l .low + (l .high - l .low) / 2) (a .x) (omega arith) (omega arith))
+    sym (found-here (a .row .now) (a .x) (l .low) (l .high) (omega arith) (omega arith)) ∙ l .inv .2
 
 add-low : tie.Need-add-low Inv-loop μ-loop
 add-low c = omega arith
@@ -63,9 +51,7 @@ loop-again : tie.Need-loop-again Inv-loop μ-loop
 loop-again c =
     let l = c .before .before .before .before .before .loop in
     let a = c .before .before .before .before .before .before .before .args in
-    let m = l .low + (l .high - l .low) / 2 in
-    let u : at (a .row .now) m < a .x = omega arith in
-    (omega arith, l .inv .1, λ k h. below (a .row .now) (a .x) m k (c .before .before .before .before .before .before .before .pre) (omega arith) u h, l .inv .3)
+    (omega arith, l .inv .1, sym (found-later (a .row .now) (a .x) (l .low) (l .high) (omega arith) (omega arith)) ∙ l .inv .2)
 
 loop-less-2 : tie.Need-loop-less-2 Inv-loop μ-loop
 loop-less-2 c = omega arith
@@ -77,16 +63,13 @@ loop-again-2 c =
     let m = l .low + (l .high - l .low) / 2 in
     let d : at (a .row .now) m ≡ a .x → ⊥ = λ q. c .before .if1 .left (c .before .before .index .ensures ∙ q) in
     let u : a .x < at (a .row .now) m = omega arith in
-    (omega arith, omega arith, l .inv .2, λ k h n. above (a .row .now) (a .x) m k (c .before .before .before .before .before .before .before .pre) u h n)
+    (omega arith, omega arith, sym (found-earlier (a .row .now) (a .x) (l .low) (l .high) (omega arith) u) ∙ l .inv .2)
 
 returns-2 : tie.Need-returns-2 Inv-loop μ-loop
 returns-2 c =
     let l = c .before .loop in
     let a = c .before .before .before .args in
-    sym (elem-nowhere (a .row .now) (a .x) (λ i h e.
-    split (ltb i (l .low))
-    (λ p. omega (arith, l .inv .2 i (ltb-true i (l .low) p)))
-    (λ p. omega (arith, l .inv .3 i (omega (arith, ltb-false i (l .low) p)) h))))
+    sym (found-none (a .row .now) (a .x) (l .high - l .low) (l .low) (l .high) (omega arith)) ∙ l .inv .2
 
 pub holds-spec : {M : Type 1} → statement M
 holds-spec =

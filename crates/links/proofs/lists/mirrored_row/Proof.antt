@@ -10,6 +10,7 @@ use Rattle.links.specs.Lists.{all, elem}
 use Rattle.links.specs.Graph.{neighborsOf}
 use Rattle.links.specs.ListTest.{mirroredRow, Rising}
 use Rattle.links.proofs.ListTestLaws.{all-next, all-fails, all-end}
+use Rattle.links.proofs.HalvingLaws.{found-elem}
 use borrow.Author.Needs.{needs}
 use Rattle.links.proofs.lists.mirrored_row.Statement.{statement}
 use Rattle.links.proofs.lists.mirrored_row.Tie as tie
@@ -44,8 +45,14 @@ neighbors-of-requires-2 : tie.Need-neighbors-of-requires-2 Inv-loop μ-loop
 neighbors-of-requires-2 c κs = search needs
 
 holds-requires : tie.Need-holds-requires Inv-loop μ-loop
+holds-requires c κs = search needs
+
+-- what the search finds is what is there
+told : (c : tie.After-holds Inv-loop μ-loop) → c .holds .result ≡ named (c .before .before .before .before .before .before .before .before .before .args .offsets .now) (c .before .before .before .before .before .before .before .before .before .args .neighbors .now) (c .before .before .before .before .before .before .before .before .before .args .v) (c .before .before .wide .result)
 unfolding Rising
-holds-requires c κs = rw (c .neighbors-of2 .ensures) (c .before .before .before .before .before .before .before .before .pre _)
+told c =
+    let a = c .before .before .before .before .before .before .before .before .before .args in
+    c .holds .ensures ∙ rw (c .before .neighbors-of2 .ensures) (found-elem (neighborsOf (a .offsets .now) (a .neighbors .now) (c .before .before .wide .result)) (a .v) (c .before .before .before .before .before .before .before .before .before .pre (c .before .before .wide .result)))
 
 returns : tie.Need-returns Inv-loop μ-loop
 returns c =
@@ -53,7 +60,7 @@ returns c =
     let a = c .before .before .before .before .before .before .before .before .before .before .args in
     let row = c .before .before .before .before .before .before .before .neighbors-of .result .now in
     let p = named (a .offsets .now) (a .neighbors .now) (a .v) in
-    let e : p (c .before .before .before .wide .result) ≡ false = sym (c .before .holds .ensures ∙ rw (c .before .before .neighbors-of2 .ensures)) ∙ not-true _ (c .if1 .taken) in
+    let e : p (c .before .before .before .wide .result) ≡ false = sym (told (c .before)) ∙ not-true _ (c .if1 .taken) in
     sym (all-fails p row (l .i) (c .before .before .before .wide .result) (omega arith) (sym (c .before .before .before .wide .ensures)) e) ∙ l .inv .1
 
 add-i : tie.Need-add-i Inv-loop μ-loop
@@ -68,7 +75,7 @@ loop-again c =
     let a = c .before .before .before .before .before .before .before .before .before .before .args in
     let row = c .before .before .before .before .before .before .before .neighbors-of .result .now in
     let p = named (a .offsets .now) (a .neighbors .now) (a .v) in
-    let e : p (c .before .before .before .wide .result) ≡ true = sym (c .before .holds .ensures ∙ rw (c .before .before .neighbors-of2 .ensures)) ∙ not-false _ (c .if1 .left) in
+    let e : p (c .before .before .before .wide .result) ≡ true = sym (told (c .before)) ∙ not-false _ (c .if1 .left) in
     (omega arith, all-next p row (l .i) (c .before .before .before .wide .result) (omega arith) (sym (c .before .before .before .wide .ensures)) e ∙ l .inv .1)
 
 returns-2 : tie.Need-returns-2 Inv-loop μ-loop

@@ -1,14 +1,18 @@
--- What comes back is src, since it is as long as the part. Assumes nothing.
-use Prim.Native.Nat.{ℕ, _≤_}
-use mathlib.Core.Path.{ap, _∙_}
-use mathlib.Core.List.{List, _++_, append-nil}
+-- What comes back is as much of the part as there is, with src over it. Assumes nothing.
+use Prim.Native.Nat.{ℕ, min}
+use mathlib.Core.Path.{_≡_, sym, ap, _∙_}
+use mathlib.Core.List.{List, []}
 use native.Mathlib.Omega.{arith}
-use lib.ListN.{length, drop-of-length-le}
-use Rattle.links.specs.Parts.{part, putBack}
-use Rattle.links.proofs.PartLaws.{length-part}
+use lib.ListN.{length}
+use lib.Seq.{drop-nil}
+use Rattle.links.specs.Parts.{part, putBack, copied, copiedPart}
+use Rattle.links.proofs.PartLaws.{clip, clip-none, copied-none}
 use borrow.Author.Needs.{needs}
 use Rattle.links.proofs.parts.copy_part.Statement.{statement}
 use Rattle.links.proofs.parts.copy_part.Tie as tie
+
+least-requires : tie.Need-least-requires
+least-requires c κs = search needs
 
 mul-copy-into : tie.Need-mul-copy-into
 mul-copy-into c = search needs
@@ -20,7 +24,7 @@ part-copy-into-start : tie.Need-part-copy-into-start
 part-copy-into-start c = search needs
 
 part-copy-into-end : tie.Need-part-copy-into-end
-part-copy-into-end c = search needs
+part-copy-into-end c = omega (arith, c .before .least .ensures)
 
 copy-into-requires : tie.Need-copy-into-requires
 copy-into-requires c κs = search needs
@@ -29,21 +33,30 @@ same-length : tie.Need-same-length
 same-length c = search needs
 
 returns : tie.Need-returns
+unfolding copiedPart
 returns c =
-    let a = c .before .before .before .before .before .before .args in
+    let a = c .before .before .before .before .before .before .before .before .args in
     let w = a .work .now in
-    let l : length (part w (a .a) (a .e)) ≤ length (a .src .now) = omega (arith, length-part w (a .a) (a .e) (omega arith) (omega arith)) in
-    ap (putBack w (a .a) (a .e))
-    (c .before .before .copy-into .ensures ∙ ap (λ (t : List ℕ). a .src .now ++ t) (drop-of-length-le (part w (a .a) (a .e)) l) ∙ append-nil (a .src .now))
+    let s = a .src .now in
+    let e = c .before .before .before .before .before .least .result in
+    ap (putBack w (a .a) e) (c .before .before .copy-into .ensures)
+    ∙ ap (λ (t : ℕ). putBack w (a .a) t (copied (part w (a .a) t) s)) (c .before .before .before .before .before .least .ensures)
+    ∙ clip w (a .a) (a .e) (λ (t : List ℕ). copied t s)
+
+returns-2 : tie.Need-returns-2
+unfolding copiedPart
+returns-2 c = let a = c .before .before .before .before .args in clip-none (a .work .now) (a .a) (a .e) (λ (t : List ℕ). copied t (a .src .now)) (copied-none (a .src .now)) (omega (arith, c .before .least .ensures))
 
 pub copy-part-spec : {M : Type 1} → statement M
 copy-part-spec =
     tie.close
     (tie.spec
+    least-requires
     mul-copy-into
     sub-copy-into
     part-copy-into-start
     part-copy-into-end
     copy-into-requires
     same-length
-    returns)
+    returns
+    returns-2)

@@ -1,13 +1,17 @@
--- What comes back is the part, filled. Assumes nothing.
-use Prim.Native.Nat.{ℕ}
-use mathlib.Core.Path.{ap, _∙_}
+-- What comes back is as much of the part as there is, filled. Assumes nothing.
+use Prim.Native.Nat.{ℕ, min}
+use mathlib.Core.Path.{refl, sym, ap, _∙_}
+use mathlib.Core.List.{List}
 use native.Mathlib.Omega.{arith}
-use lib.ListN.{replicate}
-use Rattle.links.specs.Parts.{putBack}
-use Rattle.links.proofs.PartLaws.{length-part}
+use lib.ListN.{length, replicate}
+use Rattle.links.specs.Parts.{part, putBack, filledPart}
+use Rattle.links.proofs.PartLaws.{clip, clip-none}
 use borrow.Author.Needs.{needs}
 use Rattle.links.proofs.parts.fill_part.Statement.{statement}
 use Rattle.links.proofs.parts.fill_part.Tie as tie
+
+least-requires : tie.Need-least-requires
+least-requires c κs = search needs
 
 mul-fill : tie.Need-mul-fill
 mul-fill c = search needs
@@ -19,7 +23,7 @@ part-fill-start : tie.Need-part-fill-start
 part-fill-start c = search needs
 
 part-fill-end : tie.Need-part-fill-end
-part-fill-end c = search needs
+part-fill-end c = omega (arith, c .before .least .ensures)
 
 fill-requires : tie.Need-fill-requires
 fill-requires c κs = search needs
@@ -28,12 +32,29 @@ same-length : tie.Need-same-length
 same-length c = search needs
 
 returns : tie.Need-returns
+unfolding filledPart
 returns c =
-    let a = c .before .before .before .before .before .args in
+    let a = c .before .before .before .before .before .before .before .args in
     let w = a .work .now in
-    ap (putBack w (a .a) (a .e)) (c .before .before .fill .ensures ∙ ap (λ (n : ℕ). replicate n (a .x)) (length-part w (a .a) (a .e) (omega arith) (omega arith)))
+    let e = c .before .before .before .before .before .least .result in
+    ap (putBack w (a .a) e) (c .before .before .fill .ensures)
+    ∙ ap (λ (t : ℕ). putBack w (a .a) t (replicate (length (part w (a .a) t)) (a .x))) (c .before .before .before .before .before .least .ensures)
+    ∙ clip w (a .a) (a .e) (λ (t : List ℕ). replicate (length t) (a .x))
+
+returns-2 : tie.Need-returns-2
+unfolding filledPart
+returns-2 c = let a = c .before .before .before .args in clip-none (a .work .now) (a .a) (a .e) (λ (t : List ℕ). replicate (length t) (a .x)) refl (omega (arith, c .before .least .ensures))
 
 pub fill-part-spec : {M : Type 1} → statement M
 fill-part-spec =
     tie.close
-    (tie.spec mul-fill sub-fill part-fill-start part-fill-end fill-requires same-length returns)
+    (tie.spec
+    least-requires
+    mul-fill
+    sub-fill
+    part-fill-start
+    part-fill-end
+    fill-requires
+    same-length
+    returns
+    returns-2)

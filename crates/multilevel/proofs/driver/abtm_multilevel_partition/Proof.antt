@@ -5,7 +5,7 @@ use lib.ListN.{length}
 use Rattle.links.specs.Graph.{vertexCount}
 use Rattle.multilevel.specs.Causes.{callOf, workNeed}
 use Rattle.multilevel.proofs.FinishLaws.{early-refused}
-use Rattle.multilevel.proofs.EndLaws.{whole-limits, whole-fits, whole-divisible, whole-given-back, whole-zeroed, whole-partitioned}
+use Rattle.multilevel.proofs.EndLaws.{whole-limits, whole-fits, whole-divisible, whole-zeroed, whole-partitioned}
 use borrow.Author.Needs.{needs}
 use Rattle.multilevel.proofs.driver.abtm_multilevel_partition.Statement.{statement}
 use Rattle.multilevel.proofs.driver.abtm_multilevel_partition.Tie as tie
@@ -38,7 +38,7 @@ divide-requires : tie.Need-divide-requires
 divide-requires c κs = whole-divisible (callOf (c .before .before .before .before .before .before .before .before .before .before .before .args .offsets .now) (c .before .before .before .before .before .before .before .before .before .before .before .args .neighbors .now) (c .before .before .before .before .before .before .before .before .before .before .before .args .ranks) (c .before .before .before .before .before .before .before .before .before .before .before .args .options) (length (c .before .before .before .before .before .before .before .before .before .before .before .args .owners .now)) (length (c .before .before .before .before .before .before .before .before .before .before .before .args .work .now))) (sym (c .before .before .before .before .before .before .early-cause .ensures) ∙ c .before .before .before .before .before .if1 .left) (c .before .before .before .before .before .before .before .before .before .before .before .args .work .now) refl (c .before .before .work-need .result) (c .before .before .work-need .ensures ∙ ap (λ (x : ℕ). workNeed x (length (c .before .before .before .before .before .before .before .before .before .before .before .args .neighbors .now)) (c .before .before .before .index .result) (c .before .before .before .before .before .before .before .before .before .before .before .args .options .«max_levels»)) (c .before .before .before .before .vertex-count .ensures) ∙ ap (λ (x : ℕ). workNeed (vertexCount (c .before .before .before .before .before .before .before .before .before .before .before .args .offsets .now)) (length (c .before .before .before .before .before .before .before .before .before .before .before .args .neighbors .now)) x (c .before .before .before .before .before .before .before .before .before .before .before .args .options .«max_levels»)) (c .before .before .before .index .ensures))
 
 fill-part-requires : tie.Need-fill-part-requires
-fill-part-requires c κs = (omega arith, whole-given-back (callOf (c .before .before .before .before .before .before .before .before .before .before .before .before .before .before .before .before .before .args .offsets .now) (c .before .before .before .before .before .before .before .before .before .before .before .before .before .before .before .before .before .args .neighbors .now) (c .before .before .before .before .before .before .before .before .before .before .before .before .before .before .before .before .before .args .ranks) (c .before .before .before .before .before .before .before .before .before .before .before .before .before .before .before .before .before .args .options) (length (c .before .before .before .before .before .before .before .before .before .before .before .before .before .before .before .before .before .args .owners .now)) (length (c .before .before .before .before .before .before .before .before .before .before .before .before .before .before .before .before .before .args .work .now))) (sym (c .before .before .before .before .before .before .before .before .before .before .before .before .early-cause .ensures) ∙ c .before .before .before .before .before .before .before .before .before .before .before .if1 .left) (c .before .before .before .before .before .before .before .before .before .before .before .before .before .before .before .before .before .args .work .now) refl (c .before .before .before .before .before .before .before .before .work-need .result) (c .before .before .before .before .before .before .before .before .work-need .ensures ∙ ap (λ (x : ℕ). workNeed x (length (c .before .before .before .before .before .before .before .before .before .before .before .before .before .before .before .before .before .args .neighbors .now)) (c .before .before .before .before .before .before .before .before .before .index .result) (c .before .before .before .before .before .before .before .before .before .before .before .before .before .before .before .before .before .args .options .«max_levels»)) (c .before .before .before .before .before .before .before .before .before .before .vertex-count .ensures) ∙ ap (λ (x : ℕ). workNeed (vertexCount (c .before .before .before .before .before .before .before .before .before .before .before .before .before .before .before .before .before .args .offsets .now)) (length (c .before .before .before .before .before .before .before .before .before .before .before .before .before .before .before .before .before .args .neighbors .now)) x (c .before .before .before .before .before .before .before .before .before .before .before .before .before .before .before .before .before .args .options .«max_levels»)) (c .before .before .before .before .before .before .before .before .before .index .ensures)) (c .before .before .before .before .before .divide .last .1 .1 .1 .1 .1 .0) (c .before .before .before .before .before .divide .kept .1 .1 .1 .1 .1 .0))
+fill-part-requires c κs = search needs
 
 same-length : tie.Need-same-length
 same-length c = search needs

@@ -1,6 +1,7 @@
 use native.Mathlib.Omega.{arith}
+use Rattle.links.proofs.PartLaws.{filled-kept, filled-at}
 use Rattle.multilevel.proofs.RoomLaws.{ready-wide}
-use Rattle.multilevel.proofs.MeasureLaws.{measurable-kept, cleared, measured}
+use Rattle.multilevel.proofs.MeasureLaws.{measurable-kept, measured}
 use borrow.Author.Needs.{needs}
 use Rattle.multilevel.proofs.measure.measure_level.Statement.{statement}
 use Rattle.multilevel.proofs.measure.measure_level.Tie as tie
@@ -16,16 +17,22 @@ fill-part-requires c κs = search needs
 
 volume-in-requires : tie.Need-volume-in-requires
 volume-in-requires c κs =
-    let z = cleared (c .before .before .before .before .before .before .before .before .args .work .now) (c .before .before .before .fill-part .last .0) (c .before .before .before .before .before .before .before .before .args .scratch) (c .before .before .before .before .before .before .before .before .args .ranks) (c .before .before .before .before .before .before .before .before .pre .inside) (c .before .before .before .fill-part .ensures) in
-    (measurable-kept _ _ _ _ _ (z .0) (c .before .before .before .before .before .before .before .before .pre), z .1)
+    let s = c .before .before .before .before .before .before .before .before in
+    let a = s .args in
+    let w = c .before .before .before .fill-part .last .0 in
+    let e = c .before .before .before .fill-part .ensures in
+    (measurable-kept _ _ _ _ _ (filled-kept (a .work .now) w (a .scratch) (a .ranks) 0 (s .pre .inside) e) (s .pre), λ r h. omega (arith, filled-at (a .work .now) w (a .scratch) (a .ranks) 0 (s .pre .inside) e r h))
 
 same-length : tie.Need-same-length
 same-length c = search needs
 
 returns : tie.Need-returns
 returns c =
-    let z = cleared (c .before .before .before .before .before .before .before .before .before .before .before .args .work .now) (c .before .before .before .before .before .before .fill-part .last .0) (c .before .before .before .before .before .before .before .before .before .before .before .args .scratch) (c .before .before .before .before .before .before .before .before .before .before .before .args .ranks) (c .before .before .before .before .before .before .before .before .before .before .before .pre .inside) (c .before .before .before .before .before .before .fill-part .ensures) in
-    measured _ _ _ _ _ _ _ (c .before .before .before .before .before .before .before .before .before .before .before .pre) (z .0) (c .before .before .before .before .before .before .before .before .cut-in .ensures) (c .before .before .volume-in .ensures)
+    let s = c .before .before .before .before .before .before .before .before .before .before .before in
+    let a = s .args in
+    let w = c .before .before .before .before .before .before .fill-part .last .0 in
+    let e = c .before .before .before .before .before .before .fill-part .ensures in
+    measured _ _ _ _ _ _ _ (s .pre) (filled-kept (a .work .now) w (a .scratch) (a .ranks) 0 (s .pre .inside) e) (c .before .before .before .before .before .before .before .before .cut-in .ensures) (c .before .before .volume-in .ensures)
 
 pub measure-level-spec : {M : Type 1} → statement M
 measure-level-spec =

@@ -1,7 +1,8 @@
 use native.Mathlib.Omega.{arith}
 use mathlib.Core.Path.{_≡_, _∙_}
 use Prim.Native.Nat.{_+_, _-_}
-use Rattle.links.proofs.PartLaws.{length-part}
+use Rattle.links.proofs.PartLaws.{length-part, copied-is}
+use Rattle.links.specs.Parts.{part}
 use borrow.Author.Needs.{needs}
 use Rattle.multilevel.proofs.writeback.write_owners.Statement.{statement}
 use Rattle.multilevel.proofs.writeback.write_owners.Tie as tie
@@ -32,7 +33,8 @@ returns c =
     let l = c .before .before .before .before .before .before .before .before .args .l in
     let n = length-part (c .before .before .before .before .before .before .before .before .args .work .now) (l .owners) (l .owners + l .vertices) (omega arith) (c .before .before .before .before .before .before .before .before .pre .0) in
     let e : l .owners + l .vertices - l .owners ≡ l .vertices = omega arith in
-    c .before .before .copy-into .ensures ∙ rw (n, e)
+    let t = part (c .before .before .before .before .before .before .before .before .args .work .now) (l .owners) (l .owners + l .vertices) in
+    c .before .before .copy-into .ensures ∙ copied-is (c .before .before .before .before .before .before .before .before .args .owners .now) t (omega arith) ∙ rw (n, e)
 
 pub write-owners-spec : {M : Type 1} → statement M
 write-owners-spec =

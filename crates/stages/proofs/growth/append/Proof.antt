@@ -39,9 +39,7 @@ add-store c =
     record { fits = omega (arith, c .before .before .index .ensures, read-tail (a .work .now) (c .before .before .before .before .before .pre .0) (a .r) (c .before .before .before .before .before .pre .1), c .before .before .before .before .before .pre .3, c .before .before .before .before .before .pre .0 .links-in, c .before .before .before .before .before .pre .0 .loads-in, c .before .before .before .before .before .pre .0 .heads-in, c .before .before .before .before .before .pre .0 .tails-in, c .before .before .before .before .before .pre .0 .places-in, c .before .before .before .before .before .pre .0 .counts-in, c .before .before .before .before .before .good .0 .0) }
 
 store-requires : tie.Need-store-requires
-store-requires c κs =
-    let a = c .before .before .before .before .before .args in
-    omega (arith, c .before .before .index .ensures, read-tail (a .work .now) (c .before .before .before .before .before .pre .0) (a .r) (c .before .before .before .before .before .pre .1), c .before .before .before .before .before .pre .3, c .before .before .before .before .before .pre .0 .links-in, c .before .before .before .before .before .pre .0 .loads-in, c .before .before .before .before .before .pre .0 .heads-in, c .before .before .before .before .before .pre .0 .tails-in, c .before .before .before .before .before .pre .0 .places-in, c .before .before .before .before .before .pre .0 .counts-in)
+store-requires c κs = search needs
 
 add-store-2 : tie.Need-add-store-2
 add-store-2 c = search needs

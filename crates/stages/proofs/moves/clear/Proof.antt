@@ -1,5 +1,5 @@
 -- What a part that was filled with 0 holds. Assumes nothing.
-use Rattle.stages.proofs.LoadSliceLaws.{cleared}
+use Rattle.links.proofs.PartLaws.{filled-at, filled-kept}
 use borrow.Author.Needs.{needs}
 use Rattle.stages.proofs.moves.clear.Statement.{statement}
 use Rattle.stages.proofs.moves.clear.Tie as tie
@@ -17,7 +17,8 @@ returns : tie.Need-returns
 returns c =
     let c2 = c .before .before in
     let c5 = c2 .before .before .before in
-    cleared (c5 .args .work .now) _ (c5 .args .a) (c5 .args .n) (c5 .pre) (c2 .fill-part .ensures)
+    let a = c5 .args in
+    (filled-at (a .work .now) _ (a .a) (a .n) 0 (c5 .pre) (c2 .fill-part .ensures), filled-kept (a .work .now) _ (a .a) (a .n) 0 (c5 .pre) (c2 .fill-part .ensures))
 
 pub clear-spec : {M : Type 1} → statement M
 clear-spec = tie.close (tie.spec add-fill-part fill-part-requires same-length returns)

@@ -44,14 +44,8 @@ sub-less c =
     load-covers (c6 .pre .0) (c6 .args .v) (c6 .pre .1) (c3 .owner-in .result) (c .before .weight-in .result) (c3 .owner-in .ensures)
     (c .before .weight-in .ensures)
 
-add-store-part : tie.Need-add-store-part
-add-store-part c = search needs
-
 store-part-requires : tie.Need-store-part-requires
-store-part-requires c κs =
-    let c4 = c .before .before .before .before in
-    let c7 = c4 .before .before .before in
-    let h = within c4 in (omega arith, omega (arith, c7 .pre .0 .room), omega arith)
+store-part-requires c κs = search needs
 
 add-more : tie.Need-add-more
 add-more c = search needs
@@ -71,17 +65,11 @@ add-more-2 c =
     let f = more-fits (s .pre .0) (s .args .v) (s .pre .1) (s .args .rank) (s .pre .2) (c8 .owner-in .result) (c6 .weight-in .result) (c8 .owner-in .ensures) (c6 .weight-in .ensures) in
     record { fits = rw (c3 .store-part .ensures) f }
 
-add-store-part-2 : tie.Need-add-store-part-2
-add-store-part-2 c = search needs
-
 store-part-requires-2 : tie.Need-store-part-requires-2
 store-part-requires-2 c κs = search needs
 
-add-end : tie.Need-add-end
-add-end c = search needs
-
 cast-store-part : tie.Need-cast-store-part
-cast-store-part c = let h = within (c .before .before .before .before .before .before .before .before .before .before .before .before .before .before) in search needs
+cast-store-part c = let h = within (c .before .before .before .before .before .before .before .before .before .before .before .before .before) in search needs
 
 store-part-requires-3 : tie.Need-store-part-requires-3
 store-part-requires-3 c κs = search needs
@@ -92,14 +80,14 @@ same-length c = search needs
 returns : tie.Need-returns
 returns c =
     let c2 = c .before .before in
-    let c7 = c2 .before .before .before .before .before in
-    let c12 = c7 .before .before .before .before .before in
-    let c15 = c12 .before .before .before in
-    let c17 = c15 .before .before in
-    let s = c17 .before .before .before in
-    shifted (s .pre .0) (s .args .v) (s .pre .1) (s .args .rank) (s .pre .2) (c17 .owner-in .result) (c15 .weight-in .result) (c17 .owner-in .ensures)
-    (c15 .weight-in .ensures) (c2 .store-part3 .last .0)
-    (c2 .store-part3 .ensures ∙ rw (c7 .store-part2 .ensures, c12 .store-part .ensures))
+    let c6 = c2 .before .before .before .before in
+    let c11 = c6 .before .before .before .before .before in
+    let c14 = c11 .before .before .before in
+    let c16 = c14 .before .before in
+    let s = c16 .before .before .before in
+    shifted (s .pre .0) (s .args .v) (s .pre .1) (s .args .rank) (s .pre .2) (c16 .owner-in .result) (c14 .weight-in .result) (c16 .owner-in .ensures)
+    (c14 .weight-in .ensures) (c2 .store-part3 .last .0)
+    (c2 .store-part3 .ensures ∙ rw (c6 .store-part2 .ensures, c11 .store-part .ensures))
 
 pub shift-spec : {M : Type 1} → statement M
 shift-spec =
@@ -111,15 +99,12 @@ shift-spec =
     mul-less
     slice-read-less
     sub-less
-    add-store-part
     store-part-requires
     add-more
     mul-more
     slice-read-more
     add-more-2
-    add-store-part-2
     store-part-requires-2
-    add-end
     cast-store-part
     store-part-requires-3
     same-length

@@ -70,10 +70,7 @@ slice-read-t c =
     let h = within (c .before) in omega (arith, c10 .pre .0 .room, c4 .loop .inv .3 .kept .same-length)
 
 add-store-part : tie.Need-add-store-part Inv-loop μ-loop
-add-store-part c = search needs
-
-add-store-part-2 : tie.Need-add-store-part-2 Inv-loop μ-loop
-add-store-part-2 c =
+add-store-part c =
     let c2 = c .before .before in
     let c4 = c2 .before .before in
     let c5 = c4 .before in
@@ -83,11 +80,7 @@ add-store-part-2 c =
     record { fits = omega arith }
 
 store-part-requires : tie.Need-store-part-requires Inv-loop μ-loop
-store-part-requires c κs =
-    let c2 = c .before .before in
-    let c5 = c2 .before .before .before in
-    let c11 = c5 .before .before .before .before .before .before in
-    let h = within c2 in (omega arith, omega (arith, c11 .pre .0 .room, c5 .loop .inv .3 .kept .same-length), omega arith)
+store-part-requires c κs = search needs
 
 add-i : tie.Need-add-i Inv-loop μ-loop
 add-i c = search needs
@@ -136,7 +129,6 @@ tally-spec =
     mul-t
     slice-read-t
     add-store-part
-    add-store-part-2
     store-part-requires
     add-i
     loop-less

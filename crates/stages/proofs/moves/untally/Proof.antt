@@ -51,14 +51,8 @@ owner-at-requires c κs =
     let l = c2 .loop in
     owner-asks (s .pre .0) (s .pre .1) (l .inv .3 .kept) (l .i) (l .inv .0) (omega (arith, c .before .loop-test .taken, l .inv .2))
 
-add-store-part : tie.Need-add-store-part Inv-loop μ-loop
-add-store-part c = search needs
-
 store-part-requires : tie.Need-store-part-requires Inv-loop μ-loop
-store-part-requires c κs =
-    let c4 = c .before .before .before .before in
-    let c10 = c4 .before .before .before .before .before .before in
-    let h = within (c .before) in (omega arith, omega (arith, c10 .pre .0 .room, c4 .loop .inv .3 .kept .same-length), omega arith)
+store-part-requires c κs = search needs
 
 add-i : tie.Need-add-i Inv-loop μ-loop
 add-i c = search needs
@@ -103,7 +97,6 @@ untally-spec =
     row-start-requires-2
     loop-holds
     owner-at-requires
-    add-store-part
     store-part-requires
     add-i
     loop-less

@@ -66,15 +66,8 @@ add-x-2 c =
     let f = weigh-fits (c8 .pre .0) (l .inv .2) (c5 .loop-test .taken) (c3 .owner-in .result) (c3 .owner-in .ensures) (c .weight-in .result) (c .weight-in .ensures) in
     record { fits = omega arith }
 
-add-store-part : tie.Need-add-store-part Inv-loop μ-loop
-add-store-part c = search needs
-
 store-part-requires : tie.Need-store-part-requires Inv-loop μ-loop
-store-part-requires c κs =
-    let c4 = c .before .before .before .before in
-    let c7 = c4 .before .before .before in
-    let c9 = c7 .before .before in
-    let h = within c4 in (omega arith, omega (arith, c9 .pre .0 .room, c7 .loop .inv .2 .kept .same-length), omega arith)
+store-part-requires c κs = search needs
 
 add-v : tie.Need-add-v Inv-loop μ-loop
 add-v c = search needs
@@ -119,7 +112,6 @@ weigh-spec =
     slice-read-x
     weight-in-requires
     add-x-2
-    add-store-part
     store-part-requires
     add-v
     loop-less

@@ -6,7 +6,7 @@ use mathlib.Core.List.{List}
 use lib.ListN.{length, length-set}
 use Rattle.stages.specs.Level.{rowsAt}
 use Rattle.stages.specs.SeedsCode.{Seedable, SeededTo}
-use Rattle.stages.proofs.SeedsLaws.{unreached, distances-fit, seeded-none, choosing, at-seed, picks, picked, all-seeded, searchFor}
+use Rattle.stages.proofs.SeedsLaws.{unreached, seeded-none, choosing, at-seed, picks, picked, all-seeded, searchFor}
 use borrow.Author.Needs.{needs}
 use Rattle.stages.proofs.seeds.farthest_seeds.Statement.{statement}
 use Rattle.stages.proofs.seeds.farthest_seeds.Tie as tie
@@ -31,7 +31,7 @@ add-fill-part : tie.Need-add-fill-part Inv-loop μ-loop
 add-fill-part c = search needs
 
 fill-part-requires : tie.Need-fill-part-requires Inv-loop μ-loop
-fill-part-requires c κs = (omega arith, distances-fit (c .before .before .pre))
+fill-part-requires c κs = search needs
 
 loop-holds : tie.Need-loop-holds Inv-loop μ-loop
 loop-holds c = (refl, omega arith, refl, λ w P e. seeded-none P _ e)
