@@ -110,7 +110,7 @@ module _ (w : List ℕ) (l : HierarchyLevel) (q : Rules) (left : ℕ) (p : Place
   module _ (m : ℕ) (e : left ≡ suc m) where
     pub solved-small : (w₂ : List ℕ) (a : Answer) → l .vertices ≤ q .stop → LevelGrown w w₂ l q a → LevelSolved w w₂ l q left a
     solved-small w₂ a h g =
-        let n = all-vertices w l (l .offsets + q .unit) (p .ready) in
+        let n = all-vertices (p .ready) in
         uncoarsened w w₂ a same-slice
         (ap (λ (n : ℕ). coarsenings n (q .stop) (rowsAt w l) (weightsAt w l)) e ∙ coarsen-small (q .stop) (rowsAt w l) (weightsAt w l) m (omega (arith, n))) g
 
@@ -122,7 +122,7 @@ module _ (w : List ℕ) (l : HierarchyLevel) (q : Rules) (left : ℕ) (p : Place
         → LevelGrown w₁ w₂ l q a
         → LevelSolved w w₂ l q left a
     solved-same w₁ w₂ a h s k g =
-        let n = all-vertices w l (l .offsets + q .unit) (p .ready) in
+        let n = all-vertices (p .ready) in
         let r = coarse-weighed (rowsAt w l) (weightsAt w l) in
         uncoarsened w₁ w₂ a k
         (ap (λ (n : ℕ). coarsenings n (q .stop) (rowsAt w l) (weightsAt w l)) e ∙ coarsen-same (q .stop) (rowsAt w l) (weightsAt w l) m (omega (arith, n)) (omega (arith, n, r))) g
@@ -213,7 +213,7 @@ module _ (w : List ℕ) (l : HierarchyLevel) (q : Rules) (left : ℕ) (p : Place
               : coarsenings left (q .stop) (rowsAt w l) (weightsAt w l)
               ≡ stepOf w l ∷ coarsenings m (q .stop) (stepOf w l .rows) (stepOf w l .weights)
           steps-are =
-              let n = all-vertices w l (l .offsets + q .unit) (p .ready) in
+              let n = all-vertices (p .ready) in
               let r = coarse-weighed (rowsAt w l) (weightsAt w l) in
               ap (λ (n : ℕ). coarsenings n (q .stop) (rowsAt w l) (weightsAt w l)) e
               ∙ coarsen-more (q .stop) (rowsAt w l) (weightsAt w l) m (omega (arith, n)) (omega (arith, n, r))

@@ -66,9 +66,9 @@ module _ (w : List ℕ) (l : HierarchyLevel) (q : Rules) (lists : ℕ) (f : Fini
   few-swaps : length (swapsAt w l (q .limits) passes) ≤ 131072
   few-swaps =
       let rows = rowsAt w l in
-      let n : length (ownersAt w l) ≡ length rows = owned ∙ sym (all-vertices w l (q .scratch) (f .ready)) in
+      let n : length (ownersAt w l) ≡ length rows = owned ∙ sym (all-vertices (f .ready)) in
       omega
-      (arith, swaps-few (balanceIn (q .limits)) rows (weightsAt w l) (f .ready .lists .sound) 8 passes (ownersAt w l) n, cut-entries rows (ownersAt w l), list-entries _ _ (f .ready .lists), length-neighbors w l (q .scratch) (f .ready), f .ready .short)
+      (arith, swaps-few (balanceIn (q .limits)) rows (weightsAt w l) (f .ready .lists .sound) 8 passes (ownersAt w l) n, cut-entries rows (ownersAt w l), list-entries _ _ (f .ready .lists), length-neighbors (f .ready), f .ready .short)
 
   pub finished
       : (w₂ : List ℕ) (m : Measures) (s s₁ s₂ : AbtmMultilevelStats)
@@ -79,7 +79,7 @@ module _ (w : List ℕ) (l : HierarchyLevel) (q : Rules) (lists : ℕ) (f : Fini
   finished w₂ m s s₁ s₂ k e₁ e₂ =
       let same : ownersAt w₂ l ≡ ownersAt w₁ l =
       kept-part-before (q .scratch) (q .scratch + q .limits .ranks) w₂ w₁ (k .frame) (l .owners) (l .owners + l .vertices) (omega (arith, r .ready .laid)) in
-      let rows : rowsAt w₁ l ≡ rowsAt w l = rows-kept w w₁ l (q .scratch) (l .owners) (length w) (f .ready .laid) (omega (arith, f .ready .laid)) (r .kept) in
+      let rows : rowsAt w₁ l ≡ rowsAt w l = rows-kept (f .ready) (r .kept) (omega (arith, f .ready .laid)) in
       let n : swaps ≡ length (swapsAt w l (q .limits) (swapPasses (q .passes))) = r .number ∙ ap (λ (x : ℕ). length (swapsAt w l (q .limits) x)) ep in
       let cut : m .cut ≡ cutEntries (rowsAt w l) (ownersAt w₂ l) = k .cut-counted ∙ rw (rows, same) in
       let vol : m .volume ≡ volume (rowsAt w l) (ownersAt w₂ l) (q .limits .ranks) = k .volume-counted ∙ rw (rows, same) in

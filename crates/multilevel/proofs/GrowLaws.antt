@@ -122,7 +122,7 @@ module _ (w : List ℕ) (l : HierarchyLevel) (q : Rules) (p : Placed w l q 0) wh
           let answer : a ≡ answerFor number (addedMoves s moves) = rw (rs, wss) at (x .answer-is) in
           let owners : ownersAt w₂ l ≡ movedFrom b (q .passes) rows ws (ownersAt w₁ l) = rw (rs, wss) at (x .owners-are) in
           let few : moves ≤ 131072 = rw (rs, wss) at (x .few) in
-          let n = all-vertices w l (l .offsets + q .unit) (p .ready) in
+          let n = all-vertices (p .ready) in
           let from : ownersAt w₁ l ≡ grow b (q .passes) rows ws .owners = owners-grown ∙ sym (ran .owners-are) in
           let told-restarts : restarts ≡ restartCount (growthAt w l (q .limits .ranks) (q .limits .cap) .turns) =
           ap grownValue (sym e) ∙ t .value (t .number ∙ zero-cause) in

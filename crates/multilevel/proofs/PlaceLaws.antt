@@ -54,15 +54,15 @@ module _ (w : List ℕ) (l : HierarchyLevel) (q : Rules) (left : ℕ) (p : Place
   -- what is stored above its weights leaves it
   module _ (w′ : List ℕ) (a e : ℕ) (h : l .weights + l .vertices ≤ a) (k : Kept a e w′ w) where
     pub placed-rows : rowsAt w′ l ≡ rowsAt w l
-    placed-rows = rows-kept w w′ l (l .offsets + q .unit) a e (p .ready .laid) h k
+    placed-rows = rows-kept (p .ready) k h
 
     pub placed-weights : weightsAt w′ l ≡ weightsAt w l
-    placed-weights = weights-kept w w′ l (l .offsets + q .unit) a e (p .ready .laid) h k
+    placed-weights = weights-kept (p .ready) k h
 
     pub placed-kept : Placed w′ l q left
     placed-kept =
         record {
-          ready = ready-kept w w′ l (l .offsets + q .unit) a e (p .ready .laid) h k (p .ready);
+          ready = ready-kept (p .ready) k h;
           above = p .above;
           room = omega (arith, p .room, k .same-length);
           some-ranks = p .some-ranks;
@@ -94,9 +94,9 @@ module _ (w : List ℕ) (l : HierarchyLevel) (q : Rules) (p : Refining w l q) wh
   few-moves =
       let r = p .placed .ready in
       let rows = rowsAt w l in
-      let n : length (ownersAt w l) ≡ length rows = length-owners ∙ sym (all-vertices w l (l .offsets + q .unit) r) in
+      let n : length (ownersAt w l) ≡ length rows = length-owners ∙ sym (all-vertices r) in
       omega
-      (arith, moves-few (balanceIn (q .limits)) rows (weightsAt w l) (r .lists .sound) (q .passes) (ownersAt w l) n, cut-entries rows (ownersAt w l), list-entries _ _ (r .lists), length-neighbors w l (l .offsets + q .unit) r, r .short)
+      (arith, moves-few (balanceIn (q .limits)) rows (weightsAt w l) (r .lists .sound) (q .passes) (ownersAt w l) n, cut-entries rows (ownersAt w l), list-entries _ _ (r .lists), length-neighbors r, r .short)
 
   -- what `refine_by_cut` answered
   pub level-moved

@@ -110,7 +110,7 @@ told w w′ l s k cap r a o kept =
 
 module _ {w : List ℕ} {l : HierarchyLevel} {s k : ℕ} (P : Growable w l s k) where
   n-is : length (rowsAt w l) ≡ l .vertices
-  n-is = all-vertices w l s (P .level)
+  n-is = all-vertices (P .level)
 
   pub weights-fit : l .weights + l .vertices ≤ length w
   weights-fit = let L = P .level in omega arith
@@ -174,7 +174,7 @@ module _ {w : List ℕ} {l : HierarchyLevel} {s k : ℕ} (P : Growable w l s k) 
       below = let L = P .level .laid in omega arith
 
       ready : Ready w₁ l s
-      ready = ready-kept w w₁ l s s (s + 2 * l .vertices + k) (P .level .laid) below (S .kept) (P .level)
+      ready = ready-kept (P .level) (S .kept) below
 
       pub orderable : Orderable w₁ l s
       orderable = record { level = ready; room = omega (arith, S .kept .same-length, P .room) }
@@ -189,13 +189,13 @@ module _ {w : List ℕ} {l : HierarchyLevel} {s k : ℕ} (P : Growable w l s k) 
           (kept-wide s (s + l .vertices) s (s + 2 * l .vertices + k) w₁ w₀ (omega arith) (omega arith) (O .kept)) (S₀ .kept)
 
       ready₁ : Ready w₁ l s
-      ready₁ = ready-kept w w₁ l s s (s + 2 * l .vertices + k) (P .level .laid) below₁ kept (P .level)
+      ready₁ = ready-kept (P .level) kept below₁
 
       chosen : part w₁ (s + 2 * l .vertices) (s + 2 * l .vertices + k) ≡ farthestSeeds (rowsAt w l) k
       chosen = kept-part-after s (s + l .vertices) w₁ w₀ (O .kept) (s + 2 * l .vertices) (s + 2 * l .vertices + k) (omega arith) ∙ S₀ .chosen
 
       rows₁ : rowsAt w₁ l ≡ rowsAt w l
-      rows₁ = rows-kept w w₁ l s s (s + 2 * l .vertices + k) (P .level .laid) below₁ kept
+      rows₁ = rows-kept (P .level) kept below₁
 
       pub sown : Sown (roomAt l s k) w₁
       unfolding roomAt rowsIn
@@ -203,7 +203,7 @@ module _ {w : List ℕ} {l : HierarchyLevel} {s k : ℕ} (P : Growable w l s k) 
         laid = laid (length w₁) (kept .same-length);
         lists = ready₁ .lists;
         light = ready₁ .light;
-        ordered = O .filled ∙ ap byDegree (rows-kept w w₀ l s s (s + 2 * l .vertices + k) (P .level .laid) below₁ (S₀ .kept) ∙ sym rows₁);
+        ordered = O .filled ∙ ap byDegree (rows-kept (P .level) (S₀ .kept) below₁ ∙ sym rows₁);
         seeds =
             subst (Seeds (l .vertices) k) (sym chosen)
             (subst (λ (n : ℕ). Seeds n k (farthestSeeds (rowsAt w l) k)) n-is (seeds-good (rowsAt w l) k (omega (arith, n-is))));
@@ -215,7 +215,7 @@ module _ {w : List ℕ} {l : HierarchyLevel} {s k : ℕ} (P : Growable w l s k) 
       growth-is cap =
           ap₂ (λ (R : List (List ℕ)) (W : List ℕ). weightedMultisource cap R W (part w₁ (s + 2 * l .vertices) (s + 2 * l .vertices + k)))
           rows₁
-          (weights-kept w w₁ l s s (s + 2 * l .vertices + k) (P .level .laid) below₁ kept)
+          (weights-kept (P .level) kept below₁)
           ∙ ap (weightedMultisource cap (rowsAt w l) (weightsAt w l)) chosen
 
       pub told-grown

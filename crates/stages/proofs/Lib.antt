@@ -4,7 +4,6 @@ pub mod SlotLaws
 pub mod SlotOrderLaws
 pub mod TargetLaws
 pub mod MovesLaws
-pub mod MovesSliceLaws
 pub mod TallySliceLaws
 pub mod LoadSliceLaws
 pub mod MovesTurnLaws

@@ -22,7 +22,7 @@ use Rattle.stages.specs.MovesCode.{Clear, Tallied}
 use Rattle.stages.specs.SwapsCode.{listPlace, listAt, Given, AllSorted, bordering, Offered, Waiting, Met, Offering, OfferedEntry, Listed, Holding}
 use Rattle.stages.specs.declared.swaps.SwapRoom.{SwapRoom}
 use Rattle.stages.proofs.TallyLaws.{any-cons, any-nothing, links-cons, links-none, links-some}
-use Rattle.stages.proofs.MovesSliceLaws.{neighbors-all, rows-all, neighbors-kept, row-part, row-ends, rows-kept, owners-kept}
+use Rattle.stages.proofs.LevelLaws.{length-neighbors, all-vertices, neighbors-kept, row-part, row-ends, rows-kept, owners-kept, beneath}
 use Rattle.stages.proofs.SwapListLaws.{offer-other, offer-none, offer-some, listedTo, listed-more, listed-all}
 use Rattle.stages.proofs.SwapStepLaws.{given-after}
 
@@ -124,7 +124,7 @@ module _ {w w′ : List ℕ} {s : SwapRoom} {x e : ℕ} (g : Given w s) (k : Kep
   owners-same = owners-kept (g .ready) k h
 
   pub rows-same : rowsAt w′ (s .level) ≡ rowsAt w (s .level)
-  rows-same = rows-kept (g .ready) k (omega (arith, g .ready .laid .owners-in))
+  rows-same = rows-kept (g .ready) k (beneath (g .ready) (omega (arith, g .ready .laid .owners-in)))
 
   pub given-kept : Given w′ s
   given-kept = given-after x e g k (omega (arith, g .ready .laid .owners-in)) (λ v m. rw owners-same (g .ranked v m))
@@ -171,7 +171,7 @@ module _ {w₀ : List ℕ} {s : SwapRoom} {a v : ℕ} (g : Given w₀ s) (h : v 
   module _ {w : List ℕ} {i : ℕ} (o : Offering w₀ w s a v i to) (l : i < to) (c : ℕ) (ec : c ≡ at os (at ns i)) where
     passed : (b : ℕ) → (c ≡ b → ⊥) → linksIn (part ns (i + 1) to) os b ≡ linksIn (part ns i to) os b
     passed b d =
-        let n = links-cons ns os i to b l (omega (arith, row-ends (g .ready) v h, neighbors-all (g .ready))) in
+        let n = links-cons ns os i to b l (omega (arith, row-ends (g .ready) v h, length-neighbors (g .ready))) in
         let z : tally (eqb (at os (at ns i)) b) ≡ 0 = ap tally (ne-eqb (at os (at ns i)) b (λ q. d (ec ∙ q))) in
         omega arith
 
@@ -364,7 +364,7 @@ module _ {w : List ℕ} {s : SwapRoom} {v : ℕ} (g : Given w s) (h : v < s .lev
     one : borderFrom w s v i ≡ cond (not (eqb r home)) true (borderFrom w s v (i + 1))
     one =
         any-cons (foreign w s v) (neighborsAt w (s .level)) i (at (offsetsAt w (s .level)) (v + 1)) to
-        (omega (arith, row-ends (g .ready) v h, neighbors-all (g .ready)))
+        (omega (arith, row-ends (g .ready) v h, length-neighbors (g .ready)))
         ∙ rw (a, c)
 
     pub border-here : (r ≡ home → ⊥) → true ≡ borderAt w s v
@@ -430,7 +430,7 @@ first-owner
     → c ≡ at (ownersAt w (s .level)) (at (neighborsAt w (s .level)) i)
     → c ≡ at (ownersAt w₀ (s .level)) (at (neighborsAt w₀ (s .level)) i)
 first-owner c i g k ec =
-    rw (owners-same g k (omega (arith, g .used-in, g .loads-in)), neighbors-kept (g .ready) k (omega (arith, g .used-in, g .loads-in, g .ready .laid .owners-in))) at ec
+    rw (owners-same g k (omega (arith, g .used-in, g .loads-in)), neighbors-kept (g .ready) k (beneath (g .ready) (omega (arith, g .used-in, g .loads-in, g .ready .laid .owners-in)))) at ec
 
 -- the list that a vertex is offered to is sorted when its tally has been cleared
 pub entry-sorted
@@ -519,6 +519,6 @@ module _ {w₀ w : List ℕ} {s : SwapRoom} (g : Given w₀ s) (k : Kept (s .tal
       → Holding w s (ownersAt w₀ (s .level))
   listed-end f a b p q n =
       f a b p q n
-      ∙ ap (listedTo 8 (rowsAt w₀ (s .level)) (ownersAt w₀ (s .level)) a b) (sym (rows-all (g .ready)))
+      ∙ ap (listedTo 8 (rowsAt w₀ (s .level)) (ownersAt w₀ (s .level)) a b) (sym (all-vertices (g .ready)))
       ∙ listed-all 8 (rowsAt w₀ (s .level)) (ownersAt w₀ (s .level)) a b
       ∙ ap (λ (z : List (List ℕ)). candidates 8 z (ownersAt w₀ (s .level)) a b) (sym (rows-same g k used-below))

@@ -17,7 +17,7 @@ use Rattle.stages.specs.Level.{weightsAt, ownersAt, Ready}
 use Rattle.stages.specs.declared.level.HierarchyLevel.{HierarchyLevel}
 use Rattle.stages.specs.MovesCode.{Clear, Roomed, Loaded}
 use Rattle.stages.proofs.LoadSetLaws.{load-next, load-end, load-sum}
-use Rattle.stages.proofs.MovesSliceLaws.{weights-all, owners-all, weights-kept, owners-kept, ready-kept, ready-by}
+use Rattle.stages.proofs.LevelLaws.{length-weights, length-owners, weights-kept, owners-kept, ready-kept, ready-by, beneath}
 
 -- added up as far as vertex v: with what is left, the loads
 pub record WeighTo (w₀ w : List ℕ) (l : HierarchyLevel) (loads ranks v : ℕ) : Type 0 where
@@ -39,7 +39,7 @@ module _ {w₀ : List ℕ} {l : HierarchyLevel} {loads ranks : ℕ} (t : Roomed 
   weigh-start z = record { kept = kept-refl loads (loads + ranks) w₀; sums = λ r h. omega (arith, z r h) }
 
   pub weigh-asks : {w : List ℕ} → Kept loads (loads + ranks) w w₀ → Ready w l (length w)
-  weigh-asks {w} k = ready-by (length w) (ready-kept (t .ready) k below) (omega (arith, t .room, k .same-length)) (omega arith)
+  weigh-asks {w} k = ready-by (length w) (ready-kept (t .ready) k (beneath (t .ready) below)) (omega (arith, t .room, k .same-length)) (omega arith)
 
   module _ {w : List ℕ} {v : ℕ} (d : WeighTo w₀ w l loads ranks v) (h : v < l .vertices) (r : ℕ) (e : r ≡ at (ownersAt w l) v) where
     rank-is : r ≡ at os v
@@ -50,10 +50,10 @@ module _ {w₀ : List ℕ} {l : HierarchyLevel} {loads ranks : ℕ} (t : Roomed 
 
     module _ (x : ℕ) (f : x ≡ at (weightsAt w l) v) where
       weight-is : x ≡ at ws v
-      weight-is = rw (weights-kept (t .ready) (d .kept) below) at f
+      weight-is = rw (weights-kept (t .ready) (d .kept) (beneath (t .ready) below)) at f
 
       next : (s : ℕ) → load (drop v ws) (drop v os) s ≡ cond (eqb r s) x 0 + load (drop (v + 1) ws) (drop (v + 1) os) s
-      next s = rw (rank-is, weight-is) (load-next ws os s v (omega (arith, owners-all (t .ready))) (omega (arith, weights-all (t .ready))))
+      next s = rw (rank-is, weight-is) (load-next ws os s v (omega (arith, length-owners (t .ready))) (omega (arith, length-weights (t .ready))))
 
       pub weigh-fits : at w (loads + r) + x < 2 ^ 31
       weigh-fits =
@@ -80,7 +80,7 @@ module _ {w₀ : List ℕ} {l : HierarchyLevel} {loads ranks : ℕ} (t : Roomed 
 
   pub weigh-end : {w : List ℕ} → WeighTo w₀ w l loads ranks (l .vertices) → Loaded w l loads ranks × Kept loads (loads + ranks) w w₀
   weigh-end {w} d = (
-    λ r h. rw (weights-kept (t .ready) (d .kept) below, owners-kept (t .ready) (d .kept) (omega arith))
-        (omega (arith, d .sums r h, load-end ws os r (l .vertices) (omega (arith, weights-all (t .ready))))),
+    λ r h. rw (weights-kept (t .ready) (d .kept) (beneath (t .ready) below), owners-kept (t .ready) (d .kept) (omega arith))
+        (omega (arith, d .sums r h, load-end ws os r (l .vertices) (omega (arith, length-weights (t .ready))))),
     d .kept,
   )

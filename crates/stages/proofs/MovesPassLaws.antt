@@ -25,7 +25,7 @@ use Rattle.stages.specs.declared.level.Limits.{Limits}
 use Rattle.stages.proofs.CutLaws.{cut-entries, list-entries}
 use Rattle.stages.proofs.StepLaws.{moves-few}
 use Rattle.stages.proofs.MovesLaws.{Toward, toward-start, passLeft, pass-turn, pass-end, one-few, passesLeft, repeat-turn, repeat-quiet, repeat-end}
-use Rattle.stages.proofs.MovesSliceLaws.{neighbors-all, owners-all, rows-all, rows-kept, weights-kept, owners-kept, ready-kept}
+use Rattle.stages.proofs.LevelLaws.{length-neighbors, length-owners, all-vertices, rows-kept, weights-kept, owners-kept, ready-kept, beneath}
 
 -- a pass over a level as w₀ has it, from given owners
 abbrev pub passAt : List ℕ → HierarchyLevel → Limits → List ℕ → List Step
@@ -58,7 +58,7 @@ module _ {w₀ : List ℕ} {l : HierarchyLevel} {scratch : ℕ} (limits : Limits
 
   pub pass-starts : Passing w₀ w₀ l scratch limits 0 0
   pass-starts =
-      let e : l .vertices - 0 ≡ length (rowsAt w₀ l) = omega (arith, rows-all ready) in
+      let e : l .vertices - 0 ≡ length (rowsAt w₀ l) = omega (arith, all-vertices ready) in
       record {
         moving = m;
         kept = kept-refl (l .owners) end w₀;
@@ -72,7 +72,7 @@ module _ {w₀ : List ℕ} {l : HierarchyLevel} {scratch : ℕ} (limits : Limits
 
     same : movePass (balanceIn limits) (rowsAt w l) (weightsAt w l) (v ∷ []) (ownersAt w l) ≡ one
     unfolding one
-    same = rw (rows-kept ready (d .kept) (omega arith), weights-kept ready (d .kept) (omega arith))
+    same = rw (rows-kept ready (d .kept) (beneath ready (omega arith)), weights-kept ready (d .kept) (beneath ready (omega arith)))
 
     pub turn-few : count ≤ 1
     turn-few = omega (arith, s .number, one-few (balanceIn limits) (rowsAt w l) (weightsAt w l) v (ownersAt w l))
@@ -105,10 +105,10 @@ module _ {w₀ : List ℕ} {l : HierarchyLevel} {scratch : ℕ} (limits : Limits
         omega (
           arith,
           moves-few (balanceIn limits) (rowsAt w₀ l) (weightsAt w₀ l) (ready .lists .sound) passes (ownersAt w₀ l)
-              (owners-all ready ∙ sym (rows-all ready)),
+              (length-owners ready ∙ sym (all-vertices ready)),
           cut-entries (rowsAt w₀ l) (ownersAt w₀ l),
           list-entries (offsetsAt w₀ l) (neighborsAt w₀ l) (ready .lists),
-          neighbors-all ready,
+          length-neighbors ready,
           ready .short,
         )
 
@@ -125,7 +125,7 @@ module _ {w₀ : List ℕ} {l : HierarchyLevel} {scratch : ℕ} (limits : Limits
     module _ {w w′ : List ℕ} {total p count : ℕ} (d : Repeating w₀ w l scratch limits passes total p) (h : p < passes)
         (s : Stepped w w′ l scratch ranks (passAt w l limits (ownersAt w l)) count) where
       same-pass : passAt w l limits (ownersAt w l) ≡ passAt w₀ l limits (ownersAt w l)
-      same-pass = rw (rows-kept ready (d .kept) (omega arith), weights-kept ready (d .kept) (omega arith))
+      same-pass = rw (rows-kept ready (d .kept) (beneath ready (omega arith)), weights-kept ready (d .kept) (beneath ready (omega arith)))
 
       counted : count ≡ length (passAt w₀ l limits (ownersAt w l))
       counted = s .number ∙ ap length same-pass
@@ -198,7 +198,7 @@ module _ {w w₁ : List ℕ} {l : HierarchyLevel} {scratch : ℕ} (limits : Limi
   -- the loads and tallies are 0
   pub cleared-roomed : Roomed w₁ l scratch many
   cleared-roomed = record {
-    ready = ready-kept (q .ready) k₁ low;
+    ready = ready-kept (q .ready) k₁ (beneath (q .ready) low);
     room = omega (arith, q .room, k₁ .same-length);
     ranked = λ v h. rw (owners-kept (q .ready) k₁ (omega arith)) (q .ranked v h);
   }
@@ -215,7 +215,7 @@ module _ {w w₁ : List ℕ} {l : HierarchyLevel} {scratch : ℕ} (limits : Limi
     pub weighed-moving : Moving w₂ l scratch many
     weighed-moving = record {
       weighed = record {
-        ready = ready-kept (q .ready) kept low;
+        ready = ready-kept (q .ready) kept (beneath (q .ready) low);
         room = omega (arith, q .room, kept .same-length);
         few = q .few;
         ranked = λ v h. rw same-owners (q .ranked v h);
@@ -227,7 +227,7 @@ module _ {w w₁ : List ℕ} {l : HierarchyLevel} {scratch : ℕ} (limits : Limi
     }
 
     same-moves : (passes : ℕ) → movesAt w₂ l limits passes ≡ movesAt w l limits passes
-    same-moves passes = rw (movesAt, rows-kept (q .ready) kept low, weights-kept (q .ready) kept low, same-owners)
+    same-moves passes = rw (movesAt, rows-kept (q .ready) kept (beneath (q .ready) low), weights-kept (q .ready) kept (beneath (q .ready) low), same-owners)
 
     -- the moves are made, and the owners checked
     module _ {w₃ : List ℕ} {count : ℕ} (passes : ℕ) (s : Stepped w₂ w₃ l scratch many (movesAt w₂ l limits passes) count) where

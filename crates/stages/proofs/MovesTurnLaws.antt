@@ -24,7 +24,7 @@ use Rattle.stages.proofs.StepLaws.{foldl-append}
 use Rattle.stages.proofs.LoadSetLaws.{load-set, load-sum, load-holds}
 use Rattle.stages.proofs.TallyLaws.{part-snoc, any-cons, any-nothing}
 use Rattle.stages.proofs.TargetLaws.{noOffer, offerAt, bestOffer, target-found, target-rank, untempted}
-use Rattle.stages.proofs.MovesSliceLaws.{neighbors-all, weights-all, owners-all, rows-all, row-part, row-ends, rows-kept, weights-kept, owners-kept, ready-kept, ready-by}
+use Rattle.stages.proofs.LevelLaws.{length-neighbors, length-weights, length-owners, all-vertices, row-part, row-ends, rows-kept, weights-kept, owners-kept, ready-kept, ready-by, beneath}
 
 -- the tallies stand behind the loads
 pub tallies-roomed : {w : List ℕ} {l : HierarchyLevel} {scratch ranks : ℕ} → Weighed w l scratch ranks → Roomed w l (scratch + ranks) ranks
@@ -66,7 +66,7 @@ module _ {w : List ℕ} {l : HierarchyLevel} {scratch : ℕ} (limits : Limits) (
 
     one : temptedFrom w l limits v i ≡ cond x true (temptedFrom w l limits v (i + 1))
     one =
-        any-cons (tempter w l limits v) (neighborsAt w l) i (at (offsetsAt w l) (v + 1)) to (omega (arith, row-ends (q .ready) v h, neighbors-all (q .ready)))
+        any-cons (tempter w l limits v) (neighborsAt w l) i (at (offsetsAt w l) (v + 1)) to (omega (arith, row-ends (q .ready) v h, length-neighbors (q .ready)))
         ∙ ap (λ (y : Bool). cond y true (temptedFrom w l limits v (i + 1))) tempter-is
 
     pub tempted-here : x ≡ true → true ≡ temptedAt w l limits v
@@ -130,14 +130,14 @@ module _ {w : List ℕ} {l : HierarchyLevel} {scratch : ℕ} (limits : Limits) (
         ∙ ap (offerAt (balanceIn limits) rows ws os v) d in
         let s : part (neighborsAt w l) (at (offsetsAt w l) v) (i + 1) ≡ part (neighborsAt w l) (at (offsetsAt w l) v)
         i ++ (at (neighborsAt w l) i ∷ []) =
-        part-snoc (neighborsAt w l) (at (offsetsAt w l) v) i from (omega (arith, row-ends (q .ready) v h, neighbors-all (q .ready))) in
+        part-snoc (neighborsAt w l) (at (offsetsAt w l) v) i from (omega (arith, row-ends (q .ready) v h, length-neighbors (q .ready))) in
         k ∙ rw (f, u)
         (sym (ap (foldl step noOffer) s
         ∙ foldl-append step (part (neighborsAt w l) (at (offsetsAt w l) v) i) (at (neighborsAt w l) i ∷ []) noOffer))
 
   row-ranked : All (λ u. at os u < limits .ranks) (row rows v)
   row-ranked =
-      let n = rows-all (q .ready) in
+      let n = all-vertices (q .ready) in
       all-to (λ u. u < length rows) (λ u. at os u < limits .ranks) (λ u k. q .ranked u (omega (arith, n))) (row rows v)
       (q .ready .lists .sound .below v (omega (arith, n)))
 
@@ -158,7 +158,7 @@ module _ {w : List ℕ} {l : HierarchyLevel} {scratch ranks : ℕ} (q : Weighed 
   load-covers home weight a b =
       let e : at w (scratch + home) ≡ load (weightsAt w l) (ownersAt w l) (at (ownersAt w l) v) = ap (λ (x : ℕ). at w (scratch + x)) a
       ∙ q .loaded (at (ownersAt w l) v) (q .ranked v h) in
-      omega (arith, load-holds (weightsAt w l) (ownersAt w l) v (omega (arith, owners-all (q .ready))))
+      omega (arith, load-holds (weightsAt w l) (ownersAt w l) v (omega (arith, length-owners (q .ready))))
 
   pub may-leave
       : (limits : Limits) (home weight : ℕ)
@@ -210,7 +210,7 @@ module _ {w : List ℕ} {l : HierarchyLevel} {scratch ranks : ℕ} (q : Weighed 
 
     moved-load : (r : ℕ) → r < ranks → at more (scratch + r) ≡ load (weightsAt w l) (set (ownersAt w l) v rank) r
     moved-load r m =
-        let s = load-set (weightsAt w l) (ownersAt w l) v rank r (omega (arith, owners-all (q .ready))) (omega (arith, weights-all (q .ready))) in
+        let s = load-set (weightsAt w l) (ownersAt w l) v rank r (omega (arith, length-owners (q .ready))) (omega (arith, length-weights (q .ready))) in
         let s′ : load (weightsAt w l) (set (ownersAt w l) v rank) r + cond (eqb home r) weight 0 ≡ load (weightsAt w l) (ownersAt w l)
         r + cond (eqb rank r) weight 0 = rw (a, b) s in
         let o = q .loaded r m in
@@ -243,7 +243,7 @@ module _ {w : List ℕ} {l : HierarchyLevel} {scratch ranks : ℕ} (q : Weighed 
 
     set-ranked : (u : ℕ) → u < l .vertices → at (set (ownersAt w l) v rank) u < ranks
     set-ranked u m = split (eqb u v)
-        (λ p. let e : u ≡ v = eqb-true u v p in rw (e, getD-set-same (ownersAt w l) v rank 0 (omega (arith, owners-all (q .ready)))) k)
+        (λ p. let e : u ≡ v = eqb-true u v p in rw (e, getD-set-same (ownersAt w l) v rank 0 (omega (arith, length-owners (q .ready)))) k)
         (λ p. rw (getD-set-other (ownersAt w l) v u rank 0 (eqb-false u v p)) (q .ranked u m))
 
     pub shifted : (w′ : List ℕ) → w′ ≡ set more (l .owners + v) rank → Shifted w w′ l scratch ranks v rank
@@ -255,11 +255,11 @@ module _ {w : List ℕ} {l : HierarchyLevel} {scratch ranks : ℕ} (q : Weighed 
         ap (λ (x : List ℕ). ownersAt x l) e
         ∙ part-set-in more (l .owners) (l .owners + l .vertices) v rank (omega arith) (omega (arith, q .ready .laid, q .ready .inside)) (omega arith)
         ∙ ap (λ (x : List ℕ). set x v rank) (owners-kept (q .ready) kept-loads (omega arith)) in
-        let weights : weightsAt w′ l ≡ weightsAt w l = weights-kept (q .ready) kept (omega arith) in
+        let weights : weightsAt w′ l ≡ weightsAt w l = weights-kept (q .ready) kept (beneath (q .ready) (omega arith)) in
         record {
           owners = owners;
           weighed = record {
-            ready = ready-kept (q .ready) kept (omega arith);
+            ready = ready-kept (q .ready) kept (beneath (q .ready) (omega arith));
             room = rw (kept .same-length) (q .room);
             few = q .few;
             ranked = λ u m. rw owners (set-ranked u m);
@@ -310,18 +310,18 @@ module _ {w w₁ : List ℕ} {l : HierarchyLevel} {scratch ranks : ℕ} (q : Wei
 
   pub weighed-kept : Weighed w₁ l scratch ranks
   weighed-kept = record {
-    ready = ready-kept (q .ready) k below;
+    ready = ready-kept (q .ready) k (beneath (q .ready) below);
     room = rw (k .same-length) (q .room);
     few = q .few;
     ranked = λ v h. rw same-owners (q .ranked v h);
-    loaded = λ r h. rw (same-owners, weights-kept (q .ready) k below) (k .below (scratch + r) (omega arith) ∙ q .loaded r h);
+    loaded = λ r h. rw (same-owners, weights-kept (q .ready) k (beneath (q .ready) below)) (k .below (scratch + r) (omega arith) ∙ q .loaded r h);
   }
 
   pub target-kept
       : (limits : Limits) (v : ℕ) (o : Option ℕ)
       → o ≡ target (balanceIn limits) (rowsAt w₁ l) (weightsAt w₁ l) (ownersAt w₁ l) v
       → o ≡ target (balanceIn limits) (rowsAt w l) (weightsAt w l) (ownersAt w l) v
-  target-kept limits v o e = e ∙ rw (rows-kept (q .ready) k below, weights-kept (q .ready) k below, same-owners)
+  target-kept limits v o e = e ∙ rw (rows-kept (q .ready) k (beneath (q .ready) below), weights-kept (q .ready) k (beneath (q .ready) below), same-owners)
 
 module _ {w : List ℕ} {l : HierarchyLevel} {scratch : ℕ} (limits : Limits) (m : Moving w l scratch (limits .ranks)) (v : ℕ) where
   abbrev steps : List Step

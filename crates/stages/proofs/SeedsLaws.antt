@@ -188,14 +188,14 @@ module _ {w : List ℕ} {l : HierarchyLevel} {s : ℕ} (R : Ready w l s) (room :
 
   module _ (v : ℕ) (h : v < length (rowsAt w l)) where
     v-low : v < l .vertices
-    v-low = rw (all-vertices w l s R) at h
+    v-low = rw (all-vertices R) at h
 
     v-in : v < vertexCount (offsetsAt w l)
-    v-in = vertex-in w l s R v v-low
+    v-in = vertex-in R v v-low
 
     fits : from w (l .offsets) (v + 1) ≤ l .entries
     fits =
-        omega (arith, offsets-fit (offsetsAt w l) (neighborsAt w l) (R .lists) (v + 1) (omega (arith, v-in)), length-neighbors w l s R, offset-at (v + 1) (omega (arith, v-low)))
+        omega (arith, offsets-fit (offsetsAt w l) (neighborsAt w l) (R .lists) (v + 1) (omega (arith, v-in)), length-neighbors R, offset-at (v + 1) (omega (arith, v-low)))
 
     step : from w (l .offsets) v + degree (rowsAt w l) v ≡ from w (l .offsets) (v + 1)
     step =
@@ -211,8 +211,8 @@ module _ {w : List ℕ} {l : HierarchyLevel} {s : ℕ} (R : Ready w l s) (room :
   pub lies : Lies (rowsAt w l) w l s
   lies = record {
     sound = R .lists .sound;
-    size = all-vertices w l s R;
-    few = omega (arith, all-vertices w l s R, R .few);
+    size = all-vertices R;
+    few = omega (arith, all-vertices R, R .few);
     offsets-in = omega (arith, R .laid .offsets-in, R .laid .neighbors-in, R .laid .weights-in, R .laid .map-in, R .laid .owners-in);
     step = step;
     entry = λ v i h k. entry v h i k;

@@ -20,7 +20,7 @@ use Rattle.stages.specs.declared.swaps.SwapRoom.{SwapRoom}
 use Rattle.stages.proofs.CutLaws.{cut-entries, list-entries}
 use Rattle.stages.proofs.StepLaws.{swaps-few}
 use Rattle.stages.proofs.MovesLaws.{Toward, toward-start, passesLeft, repeat-turn, repeat-quiet, repeat-end}
-use Rattle.stages.proofs.MovesSliceLaws.{neighbors-all, owners-all, rows-all, rows-kept, weights-kept, owners-kept}
+use Rattle.stages.proofs.LevelLaws.{length-neighbors, length-owners, all-vertices, rows-kept, weights-kept, owners-kept, beneath}
 use Rattle.stages.proofs.SlotLaws.{slots-empty}
 use Rattle.stages.proofs.SwapListLaws.{range-more, concat-append, proposals-are, proposals-none, proposals-none-back, candidates-fair, proposals-named}
 use Rattle.stages.proofs.SwapsSliceLaws.{row-few, roomed}
@@ -34,10 +34,10 @@ module _ {w : List ℕ} {s : SwapRoom} (g : Given w s) where
   rows = rowsAt w (s .level)
 
   short-rows : (v : ℕ) → v < length rows → length (row rows v) ≤ 131072
-  short-rows v h = row-few g v (rw (rows-all (g .ready)) at h)
+  short-rows v h = row-few g v (rw (all-vertices (g .ready)) at h)
 
   fair : (owners : List ℕ) (a b : ℕ) → All (Fair (s .level .vertices)) (candidates 8 rows owners a b)
-  fair owners a b = rw (rows-all (g .ready)) at (candidates-fair rows short-rows 8 owners a b)
+  fair owners a b = rw (all-vertices (g .ready)) at (candidates-fair rows short-rows 8 owners a b)
 
   module _ {x y : ℕ} {owners : List ℕ} {a b : ℕ} (f : Facing w s x y owners a b) where
     pub fore-fair : All (Fair (s .level .vertices)) (slots candidate 8 (part w x (x + 24)))
@@ -56,7 +56,7 @@ module _ {w : List ℕ} {s : SwapRoom} (g : Given w s) where
     filled list list′ z e = e ∙ rw (slots-empty proposal 64 list z, f .fore, f .back) (proposals-are rows 8 64 owners a b (omega arith))
 
     pub named : (ps : List Proposal) → ps ≡ proposals 8 rows owners a b → All (Named (s .level .vertices)) ps
-    named ps e = rw e (rw (rows-all (g .ready)) at (proposals-named rows short-rows 8 owners a b))
+    named ps e = rw e (rw (all-vertices (g .ready)) at (proposals-named rows short-rows 8 owners a b))
 
 -- ---- a rank and the later ones, and all ranks
 
@@ -93,7 +93,7 @@ module _ {w : List ℕ} {s : SwapRoom} (g : Given w s) where
   -- the lists stay while swaps are made
   module _ {w₁ : List ℕ} {done : ℕ} {ps : List Proposal} (t : Taken w w₁ s done ps) where
     same-rows : rowsAt w₁ (s .level) ≡ rowsAt w (s .level)
-    same-rows = rows-kept (g .ready) (t .kept) (omega arith)
+    same-rows = rows-kept (g .ready) (t .kept) (beneath (g .ready) (omega arith))
 
     pub holding-on : (owners : List ℕ) → Holding w s owners → Holding w₁ s owners
     holding-on owners f a b p q d = list-kept s (t .kept) (omega (arith, g .tallies-in)) a b ∙ f a b p q d ∙ rw same-rows
@@ -152,7 +152,7 @@ standing-kept
     → Standing w′ s
 standing-kept t k h f = record {
   given = given-kept (t .given) k h;
-  loaded = λ r m. f r m ∙ t .loaded r m ∙ rw (weights-kept (t .given .ready) k (omega (arith, t .given .ready .laid .owners-in)), owners-same (t .given) k h);
+  loaded = λ r m. f r m ∙ t .loaded r m ∙ rw (weights-kept (t .given .ready) k (beneath (t .given .ready) (omega (arith, t .given .ready .laid .owners-in))), owners-same (t .given) k h);
 }
 
 -- the flags are cleared, and then the lists
@@ -219,8 +219,8 @@ module _ {w w₁ w₂ : List ℕ} {s : SwapRoom} (t : Standing w s) (z : Clear w
         → Stepped w w₄ s (passFrom w s (ownersAt w (s .level))) r
     pass-made {w₄} {r} d =
         let low : s .level .owners ≤ s .used = omega (arith, t .given .ready .laid .owners-in) in
-        let rows₃ : rowsAt w₃ (s .level) ≡ rowsAt w (s .level) = rows-kept (t .given .ready) kept₃ low in
-        let weights₃ : weightsAt w₃ (s .level) ≡ weightsAt w (s .level) = weights-kept (t .given .ready) kept₃ low in
+        let rows₃ : rowsAt w₃ (s .level) ≡ rowsAt w (s .level) = rows-kept (t .given .ready) kept₃ (beneath (t .given .ready) low) in
+        let weights₃ : weightsAt w₃ (s .level) ≡ weightsAt w (s .level) = weights-kept (t .given .ready) kept₃ (beneath (t .given .ready) low) in
         let owners₃ : ownersAt w₃ (s .level) ≡ ownersAt w (s .level) = owners-same (t .given) kept₃ (omega arith) in
         let owners₂ : ownersAt w₂ (s .level) ≡ ownersAt w (s .level) =
         owners-same (standing₁ .given) k₂ (omega (arith, uses, loads-before, tallies-before)) ∙ owners-same (t .given) k₁ (omega arith) in
@@ -259,10 +259,10 @@ module _ {w₀ : List ℕ} {s : SwapRoom} (t : Standing w₀ s) (passes : ℕ) w
   swaps-bound =
       omega (
         arith,
-        swaps-few (balanceIn (s .limits)) (rowsAt w₀ (s .level)) (weightsAt w₀ (s .level)) (ready .lists .sound) 8 passes (ownersAt w₀ (s .level)) (owners-all ready ∙ sym (rows-all ready)),
+        swaps-few (balanceIn (s .limits)) (rowsAt w₀ (s .level)) (weightsAt w₀ (s .level)) (ready .lists .sound) 8 passes (ownersAt w₀ (s .level)) (length-owners ready ∙ sym (all-vertices ready)),
         cut-entries (rowsAt w₀ (s .level)) (ownersAt w₀ (s .level)),
         list-entries (offsetsAt w₀ (s .level)) (neighborsAt w₀ (s .level)) (ready .lists),
-        neighbors-all ready,
+        length-neighbors ready,
         ready .short,
       )
 
@@ -279,7 +279,7 @@ module _ {w₀ : List ℕ} {s : SwapRoom} (t : Standing w₀ s) (passes : ℕ) w
 
   module _ {w w′ : List ℕ} {total p count : ℕ} (d : Repeating w₀ w s passes total p) (h : p < passes) (x : Stepped w w′ s (passFrom w s (ownersAt w (s .level))) count) where
     same-pass : passFrom w s (ownersAt w (s .level)) ≡ passFrom w₀ s (ownersAt w (s .level))
-    same-pass = rw (rows-kept ready (d .kept) (omega arith), weights-kept ready (d .kept) (omega arith))
+    same-pass = rw (rows-kept ready (d .kept) (beneath ready (omega arith)), weights-kept ready (d .kept) (beneath ready (omega arith)))
 
     number : count ≡ length (passFrom w₀ s (ownersAt w (s .level)))
     number = x .counted ∙ ap length same-pass
@@ -360,8 +360,8 @@ module _ {w w₁ : List ℕ} (s : SwapRoom) (q : Swappable w (s .level) (s .used
         → RefinedBySwaps w w′ (s .level) (s .used) (s .limits) passes r
     refined {w′} {passes} {r} x =
         let low : s .level .owners ≤ s .loads = omega (arith, q .ready .laid .owners-in) in
-        let rows₂ : rowsAt w₂ (s .level) ≡ rowsAt w (s .level) = rows-kept (q .ready) kept₂ low in
-        let weights₂ : weightsAt w₂ (s .level) ≡ weightsAt w (s .level) = weights-kept (q .ready) kept₂ low in
+        let rows₂ : rowsAt w₂ (s .level) ≡ rowsAt w (s .level) = rows-kept (q .ready) kept₂ (beneath (q .ready) low) in
+        let weights₂ : weightsAt w₂ (s .level) ≡ weightsAt w (s .level) = weights-kept (q .ready) kept₂ (beneath (q .ready) low) in
         let owners₂ : ownersAt w₂ (s .level) ≡ ownersAt w (s .level) = owners-kept (q .ready) kept₂ (omega arith) in
         let made : List (List ℕ) → List ℕ → List ℕ → List Step = λ rows weights owners. refineFinePairSwaps (balanceIn (s .limits)) rows weights 8 passes owners .steps in
         let steps : swapsAt w₂ (s .level) (s .limits) passes ≡ swapsAt w (s .level) (s .limits) passes =

@@ -20,7 +20,7 @@ use Rattle.stages.specs.SwapsCode.{Given, Standing, Marked, changed, tra
 use Rattle.stages.specs.declared.swaps.SwapRoom.{SwapRoom}
 use Rattle.stages.proofs.LoadSetLaws.{load-set, load-sum, load-holds}
 use Rattle.stages.proofs.StepLaws.{foldl-append}
-use Rattle.stages.proofs.MovesSliceLaws.{owners-all, weights-all, owner-place, ready-kept, rows-kept, weights-kept}
+use Rattle.stages.proofs.LevelLaws.{length-owners, length-weights, owner-place, ready-kept, rows-kept, weights-kept, beneath}
 use Rattle.stages.proofs.SwapListLaws.{pass-append, pass-skip, pass-take}
 
 -- ---- loads
@@ -214,7 +214,7 @@ pub given-after
     → ((v : ℕ) → v < s .level .vertices → at (ownersAt w′ (s .level)) v < s .limits .ranks)
     → Given w′ s
 given-after a e g k h f = record {
-  ready = ready-kept (g .ready) k h;
+  ready = ready-kept (g .ready) k (beneath (g .ready) h);
   used-in = g .used-in;
   loads-in = g .loads-in;
   tallies-in = g .tallies-in;
@@ -233,10 +233,10 @@ module _ {w : List ℕ} {s : SwapRoom} (t : Standing w s) (u v : ℕ) (h : u < s
   ws = weightsAt w (s .level)
 
   few : length os ≡ s .level .vertices
-  few = owners-all (t .given .ready)
+  few = length-owners (t .given .ready)
 
   all : length ws ≡ s .level .vertices
-  all = weights-all (t .given .ready)
+  all = length-weights (t .given .ready)
 
   kept₁ : Kept (s .level .owners) (s .used + s .level .vertices) w₁ w
   kept₁ = rw e₁ (changed-kept (t .given) u v h k)
@@ -288,7 +288,7 @@ module _ {w : List ℕ} {s : SwapRoom} (t : Standing w s) (u v : ℕ) (h : u < s
           loaded = λ r m.
               let i : at w₂ (s .loads + r) ≡ at (traded w₁ (s .loads) a b x y) (s .loads + r) = ap (λ (z : List ℕ). at z (s .loads + r)) e₂ in
               let j = rw (← ea, ← eb, ← ex, ← ey) at (load-swap ws os u v r (omega (arith, few)) (omega (arith, few)) (omega (arith, few, all))) in
-              rw (weights-kept (g .ready) kept (omega arith), owners₂) (omega (arith, i, j, traded-at tradable r, load₁ r m));
+              rw (weights-kept (g .ready) kept (beneath (g .ready) (omega arith)), owners₂) (omega (arith, i, j, traded-at tradable r, load₁ r m));
         };
         kept = kept;
         owners-are = owners₂;
@@ -346,8 +346,8 @@ taken-then {w} {w₁} {w₂} {s} {i} {j} {ps} {qs} g x y =
     let l = s .level in
     let b = balanceIn (s .limits) in
     let below : l .owners ≤ l .owners = omega arith in
-    let rows : rowsAt w₁ l ≡ rowsAt w l = rows-kept (g .ready) (x .kept) below in
-    let weights : weightsAt w₁ l ≡ weightsAt w l = weights-kept (g .ready) (x .kept) below in
+    let rows : rowsAt w₁ l ≡ rowsAt w l = rows-kept (g .ready) (x .kept) (beneath (g .ready) below) in
+    let weights : weightsAt w₁ l ≡ weightsAt w l = weights-kept (g .ready) (x .kept) (beneath (g .ready) below) in
     record {
       standing = y .standing;
       kept = kept-trans (l .owners) (s .tallies) w₂ w₁ w (y .kept) (x .kept);

@@ -18,7 +18,7 @@ use Rattle.stages.specs.Swaps.{inBalance, applies}
 use Rattle.stages.specs.MovesCode.{Roomed}
 use Rattle.stages.specs.SwapsCode.{Given, Marked}
 use Rattle.stages.specs.declared.swaps.SwapRoom.{SwapRoom}
-use Rattle.stages.proofs.MovesSliceLaws.{ready-by, owner-place, vertices-all, owners-all, rows-all, row-part, row-rises, row-ends}
+use Rattle.stages.proofs.LevelLaws.{ready-by, owner-place, count-vertices, length-owners, all-vertices, row-part, row-rises, row-ends}
 
 -- what a row's two offsets say
 pub record RowAt (w : List ℕ) (s : SwapRoom) (v x y : ℕ) : Type 0 where
@@ -36,7 +36,7 @@ module _ {w : List ℕ} {s : SwapRoom} (g : Given w s) where
   roomed a h k = record { ready = ready-by a (g .ready) h (omega arith); room = k; ranked = g .ranked }
 
   pub vertices-are : length (rowsAt w (s .level)) ≡ s .level .vertices
-  vertices-are = rows-all (g .ready)
+  vertices-are = all-vertices (g .ready)
 
   module _ (v : ℕ) (h : v < s .level .vertices) where
     pub row-at : (x y : ℕ) → x ≡ at (offsetsAt w (s .level)) v → y ≡ at (offsetsAt w (s .level)) (v + 1) → RowAt w s v x y
@@ -61,7 +61,7 @@ module _ {w : List ℕ} {s : SwapRoom} (g : Given w s) where
     row-few =
         omega (
           arith,
-          length-row (offsetsAt w (s .level)) (neighborsAt w (s .level)) (g .ready .lists) v (omega (arith, vertices-all (g .ready))),
+          length-row (offsetsAt w (s .level)) (neighborsAt w (s .level)) (g .ready .lists) v (omega (arith, count-vertices (g .ready))),
           row-ends (g .ready) v h,
           g .ready .short,
         )
@@ -70,9 +70,9 @@ module _ {w : List ℕ} {s : SwapRoom} (g : Given w s) where
     row-under i k =
         omega (
           arith,
-          row-below (offsetsAt w (s .level)) (neighborsAt w (s .level)) (g .ready .lists) v (omega (arith, vertices-all (g .ready))) i k,
-          vertices-all (g .ready),
-          owners-all (g .ready),
+          row-below (offsetsAt w (s .level)) (neighborsAt w (s .level)) (g .ready .lists) v (omega (arith, count-vertices (g .ready))) i k,
+          count-vertices (g .ready),
+          length-owners (g .ready),
         )
 
     pub owner-is : at (ownersAt w (s .level)) v ≡ at w (s .level .owners + v)

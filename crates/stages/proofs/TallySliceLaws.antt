@@ -17,7 +17,7 @@ use Rattle.stages.specs.Level.{offsetsAt, neighborsAt, ownersAt, Ready}
 use Rattle.stages.specs.declared.level.HierarchyLevel.{HierarchyLevel}
 use Rattle.stages.specs.MovesCode.{Clear, Roomed, Tallied}
 use Rattle.stages.proofs.TallyLaws.{links-snoc, links-cons, links-none, links-few}
-use Rattle.stages.proofs.MovesSliceLaws.{neighbors-all, row-part, row-rises, row-ends, entry-below, rows-kept, neighbors-kept, owners-kept, ready-kept, ready-by}
+use Rattle.stages.proofs.LevelLaws.{length-neighbors, row-part, row-rises, row-ends, entry-below, rows-kept, neighbors-kept, owners-kept, ready-kept, ready-by, beneath}
 
 -- tallied as far as entry i; to be cleared from entry i on
 pub record TallyTo (w₀ w : List ℕ) (l : HierarchyLevel) (tallies ranks v i : ℕ) : Type 0 where
@@ -52,15 +52,15 @@ module _ {w₀ : List ℕ} {l : HierarchyLevel} {tallies ranks v : ℕ} (t : Roo
     pub owner-asks : Ready w l (length w) × (i < l .entries) × (at (neighborsAt w l) i < l .vertices)
     owner-asks =
         let below : l .owners ≤ tallies = omega (arith, t .ready .laid) in (
-          ready-by (length w) (ready-kept (t .ready) k below) (omega (arith, t .room, k .same-length)) (omega arith),
+          ready-by (length w) (ready-kept (t .ready) k (beneath (t .ready) below)) (omega (arith, t .room, k .same-length)) (omega arith),
           omega (arith, ends),
-          rw (neighbors-kept (t .ready) k below) (entry-below (t .ready) v vertex i a b),
+          rw (neighbors-kept (t .ready) k (beneath (t .ready) below)) (entry-below (t .ready) v vertex i a b),
         )
 
     pub owner-is : (r : ℕ) → r ≡ at (ownersAt w l) (at (neighborsAt w l) i) → r ≡ owner i
     owner-is r e =
         let below : l .owners ≤ tallies = omega (arith, t .ready .laid) in
-        rw (owners-kept (t .ready) k (omega arith), neighbors-kept (t .ready) k below) at e
+        rw (owners-kept (t .ready) k (omega arith), neighbors-kept (t .ready) k (beneath (t .ready) below)) at e
 
     pub owner-in : (r : ℕ) → r ≡ at (ownersAt w l) (at (neighborsAt w l) i) → r < ranks
     owner-in r e = rw (owner-is r e) (t .ranked (at (neighborsAt w₀ l) i) (entry-below (t .ready) v vertex i a b))
@@ -79,7 +79,7 @@ module _ {w₀ : List ℕ} {l : HierarchyLevel} {tallies ranks v : ℕ} (t : Roo
     pub tally-fits : at w (tallies + r) + 1 ≤ 131072
     tally-fits =
         let n : length (part (neighborsAt w₀ l) from i) ≡ i - from = length-part (neighborsAt w₀ l)
-        from i a (omega (arith, ends, neighbors-all (t .ready))) in
+        from i a (omega (arith, ends, length-neighbors (t .ready))) in
         omega (arith, d .counts r (owner-in (d .kept) i a b r e), links-few (part (neighborsAt w₀ l) from i) (ownersAt w₀ l) r, ends, t .ready .short)
 
     pub tally-turn : (w′ : List ℕ) → w′ ≡ set w (tallies + r) (at w (tallies + r) + 1) → TallyTo w₀ w′ l tallies ranks v (i + 1)
@@ -89,7 +89,7 @@ module _ {w₀ : List ℕ} {l : HierarchyLevel} {tallies ranks v : ℕ} (t : Roo
         record {
           kept = rw f (kept-set tallies (tallies + ranks) w w₀ (tallies + r) (at w (tallies + r) + 1) (d .kept) (omega arith) (omega arith));
           counts = λ s m.
-              let n = links-snoc (neighborsAt w₀ l) (ownersAt w₀ l) from i s a (omega (arith, ends, neighbors-all (t .ready))) in
+              let n = links-snoc (neighborsAt w₀ l) (ownersAt w₀ l) from i s a (omega (arith, ends, length-neighbors (t .ready))) in
               split (eqb r s)
               (λ p.
               let g : r ≡ s = eqb-true r s p in
@@ -111,7 +111,7 @@ module _ {w₀ : List ℕ} {l : HierarchyLevel} {tallies ranks v : ℕ} (t : Roo
         λ r h.
             d .counts r h
             ∙ ap (λ (us : List ℕ). linksIn us (ownersAt w₀ l) r) (sym (row-part (t .ready) v vertex))
-            ∙ rw (rows-kept (t .ready) (d .kept) below, owners-kept (t .ready) (d .kept) (omega arith)),
+            ∙ rw (rows-kept (t .ready) (d .kept) (beneath (t .ready) below), owners-kept (t .ready) (d .kept) (omega arith)),
         d .kept,
       )
 
@@ -131,7 +131,7 @@ module _ {w₀ : List ℕ} {l : HierarchyLevel} {tallies ranks v : ℕ} (t : Roo
         record {
           kept = rw f (kept-set tallies (tallies + ranks) w w₀ (tallies + r) 0 (d .kept) (omega arith) (omega arith));
           zeros = λ s m u.
-              let n = links-cons (neighborsAt w₀ l) (ownersAt w₀ l) i to s b (omega (arith, ends, neighbors-all (t .ready))) in
+              let n = links-cons (neighborsAt w₀ l) (ownersAt w₀ l) i to s b (omega (arith, ends, length-neighbors (t .ready))) in
               split (eqb r s)
               (λ p. let g : r ≡ s = eqb-true r s p in rw (f, ← g) (stored (d .kept) i a b r 0 h))
               (λ p.

@@ -2,7 +2,7 @@
 use mathlib.Core.Path.{sym, ap, _∙_}
 use Rattle.links.specs.Lists.{at}
 use Rattle.stages.specs.Level.{ownersAt}
-use Rattle.stages.proofs.MovesSliceLaws.{neighbor-place}
+use Rattle.stages.proofs.LevelLaws.{neighbor-place}
 use borrow.Author.Needs.{needs}
 use Rattle.stages.proofs.moves.owner_at.Statement.{statement}
 use Rattle.stages.proofs.moves.owner_at.Tie as tie

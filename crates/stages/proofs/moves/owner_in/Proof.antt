@@ -1,6 +1,6 @@
 -- An owner read by its place in the slice. Assumes nothing.
 use mathlib.Core.Path.{sym, _∙_}
-use Rattle.stages.proofs.MovesSliceLaws.{owner-place}
+use Rattle.stages.proofs.LevelLaws.{owner-place}
 use borrow.Author.Needs.{needs}
 use Rattle.stages.proofs.moves.owner_in.Statement.{statement}
 use Rattle.stages.proofs.moves.owner_in.Tie as tie

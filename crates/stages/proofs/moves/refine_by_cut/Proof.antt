@@ -1,6 +1,6 @@
 -- Loads and tallies are set up, the passes made, and the check's answer is handed on. Assumes nothing.
 use native.Mathlib.Omega.{arith}
-use Rattle.stages.proofs.MovesSliceLaws.{ready-by}
+use Rattle.stages.proofs.LevelLaws.{ready-by}
 use Rattle.stages.proofs.MovesPassLaws.{cleared-roomed, weighed-moving, was-valid, was-refused}
 use borrow.Author.Needs.{needs}
 use Rattle.stages.proofs.moves.refine_by_cut.Statement.{statement}

@@ -1,6 +1,6 @@
 -- An offset read by its place in the slice. Assumes nothing.
 use mathlib.Core.Path.{sym, _∙_}
-use Rattle.stages.proofs.MovesSliceLaws.{offset-place}
+use Rattle.stages.proofs.LevelLaws.{offset-place}
 use borrow.Author.Needs.{needs}
 use Rattle.stages.proofs.moves.row_start.Statement.{statement}
 use Rattle.stages.proofs.moves.row_start.Tie as tie

@@ -1,6 +1,6 @@
 -- A weight read by its place in the slice. Assumes nothing.
 use mathlib.Core.Path.{sym}
-use Rattle.stages.proofs.MovesSliceLaws.{weight-place}
+use Rattle.stages.proofs.LevelLaws.{weight-place}
 use borrow.Author.Needs.{needs}
 use Rattle.stages.proofs.moves.weight_in.Statement.{statement}
 use Rattle.stages.proofs.moves.weight_in.Tie as tie

@@ -4,7 +4,7 @@ use mathlib.Core.Path.{_≡_}
 use native.Mathlib.Omega.{arith}
 use Rattle.links.specs.Lists.{at}
 use Rattle.stages.specs.Level.{offsetsAt}
-use Rattle.stages.proofs.MovesSliceLaws.{row-rises, row-ends, entry-below}
+use Rattle.stages.proofs.LevelLaws.{row-rises, row-ends, entry-below}
 use Rattle.stages.proofs.SwapsSliceLaws.{whole}
 use Rattle.stages.proofs.ListingLaws.{borderFrom, borderAt, border-start, border-here, border-next, border-end}
 use borrow.Author.Needs.{needs}

@@ -7,7 +7,7 @@ use borrow.Author.Needs.{needs}
 use Rattle.links.specs.Lists.{at}
 use Rattle.stages.specs.Level.{offsetsAt}
 use Rattle.stages.specs.SwapsCode.{Offering, AllSorted}
-use Rattle.stages.proofs.MovesSliceLaws.{neighbors-kept, row-rises, row-ends, entry-below}
+use Rattle.stages.proofs.LevelLaws.{neighbors-kept, row-rises, row-ends, entry-below, beneath}
 use Rattle.stages.proofs.SwapsSliceLaws.{whole}
 use Rattle.stages.proofs.ListingLaws.{given-kept, offering-start}
 use Rattle.stages.proofs.swaps.offer_row.Statement.{statement}
@@ -52,7 +52,7 @@ offer-entry-requires c κs =
       given-kept (p .0) k (omega (arith, p .0 .used-in, p .0 .loads-in)),
       rw (p .2) (p .0 .ranked (a .v) (p .1)),
       omega (arith, c .before .before .before .before .before .row-start .ensures),
-      rw (neighbors-kept (p .0 .ready) k (omega (arith, p .0 .used-in, p .0 .loads-in, p .0 .ready .laid .owners-in)))
+      rw (neighbors-kept (p .0 .ready) k (beneath (p .0 .ready) (omega (arith, p .0 .used-in, p .0 .loads-in, p .0 .ready .laid .owners-in))))
           (entry-below (p .0 .ready) (a .v) (p .1) (l .i) (omega (arith, c .before .before .before .row-start2 .ensures)) (omega (arith, c .before .before .before .before .before .row-start .ensures))),
       l .inv .4,
     )
