@@ -1,6 +1,6 @@
 -- Laws of a lent level: what the causes leave, what copying it leaves, and that the stages can work on it. Assumes nothing.
 use Prim.Native.Nat.{ℕ, _+_, _-_, _*_, _≤_, _<_, _^_}
-use mathlib.Core.Path.{_≡_, refl, sym, ap, _∙_}
+use mathlib.Core.Path.{_≡_, refl, sym, _∙_}
 use mathlib.Core.Bool.{Bool, true, false, not, _||_, cond}
 use mathlib.Core.List.{List}
 use native.Mathlib.Omega.{arith}
@@ -12,9 +12,9 @@ use lib.Dec.{leb, ltb, eqb}
 use borrow.Author.Tests.{eqb-true, eq-eqb, ne-eqb, ltb-false, leb-false}
 use Rattle.links.specs.Lists.{at, sum}
 use Rattle.links.specs.Parts.{part, copiedPart, Kept}
-use Rattle.links.specs.Graph.{vertexCount, badLists, listsCause, SoundLists}
+use Rattle.links.specs.Graph.{vertexCount, badLists, SoundLists}
 use Rattle.links.specs.Owners.{strayOwner}
-use Rattle.links.proofs.ListLaws.{split, or-l, or-r}
+use Rattle.links.proofs.ListLaws.{or-l, or-r}
 use Rattle.links.proofs.PartLaws.{kept-part-before, copied-kept, copied-part}
 use Rattle.links.proofs.SoundLaws.{sound-lists}
 use Rattle.links.proofs.OwnerLaws.{all-below}
@@ -128,15 +128,6 @@ module _ (s : Lent) (work : ℕ) where
       → cond b1 3 (cond b2 4 (cond b3 5 (cond b4 12 0))) ≡ lentCause s work
   unfolding lentCause
   cause-is b1 b2 b3 b4 e1 e2 e3 e4 = rw (e1, e2, e3, e4)
-
-module _ (offsets neighbors : List ℕ) (r : ℕ) (e : r ≡ listsCause offsets neighbors) where
-  pub lists-bad : (r ≡ 0 → ⊥) → badLists offsets neighbors ≡ true
-  unfolding listsCause
-  lists-bad f = split (badLists offsets neighbors) (λ p. p) (λ p. absurd (f (e ∙ rw p)))
-
-  pub lists-fine : r ≡ 0 → badLists offsets neighbors ≡ false
-  unfolding listsCause
-  lists-fine f = split (badLists offsets neighbors) (λ p. let z : _≡_ {A = ℕ} 4 0 = rw p at (sym e ∙ f) in absurd (omega arith)) (λ p. p)
 
 -- ---- what copying leaves
 

@@ -5,11 +5,11 @@ ghost use lib.ListN.{length};
 ghost use lib.Dec.{leb};
 ghost use Rattle.links.specs.Lists.{sum};
 ghost use Rattle.links.specs.Graph.{vertexCount};
-ghost use Rattle.links.specs.Owners.{strayOwner};
 ghost use Rattle.bridge_stages.specs.Lent.{lent, levelAt, placeFor, needFor, Limited, overLimits, misfit, lentCause, LevelFits, LevelLaid, Entered};
 use links::copy_part;
 use links::index;
 use links::lists_cause;
+use links::stray_owner;
 use links::vertex_count;
 use links::wide;
 use stages::HierarchyLevel;
@@ -75,20 +75,6 @@ fn heavy(weights: &[u32]) -> bool
     while i < weights.len() {
         total = total + wide(weights[i]);
         if 2147483648 <= total {
-            return true;
-        }
-        i += 1;
-    }
-    false
-}
-
-// Whether an owner is not below the number of ranks.
-fn stray_owner(owners: &[u32], ranks: u32) -> bool
-    ensures { λ r. ⌜ r ≡ strayOwner ranks (now (owners .entry)) ⌝ }
-{
-    let mut i: usize = 0;
-    while i < owners.len() {
-        if owners[i] >= ranks {
             return true;
         }
         i += 1;

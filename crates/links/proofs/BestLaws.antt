@@ -1,9 +1,9 @@
 -- A choice made by a loop that goes up: laws of `best` over what passes a test. The code keeps a number for the best so far, unassigned for none.
 -- Assumes nothing.
-use mathlib.Core.Path.{_≡_, refl, sym}
+use mathlib.Core.Path.{_≡_, refl}
 use mathlib.Core.Bool.{Bool, true, false, cond}
 use mathlib.Core.List.{List, [], _∷_}
-use mathlib.Core.Option.{Option, none, some, Option·getD}
+use mathlib.Core.Option.{Option, none, some}
 use mathlib.Core.Logic.{_⊎_, inr}
 use Prim.Native.Nat.{ℕ, zero, suc, _+_, _-_, _<_, _≤_}
 use native.Mathlib.Nat.{not-suc-le-zero, le-of-suc-le-suc}
@@ -11,7 +11,7 @@ use native.Mathlib.Numerals.{add-one}
 use native.Mathlib.Omega.{arith}
 use lib.Dec.{eqb}
 use lib.ListN.{length, drop, drop-of-length-le}
-use borrow.Author.Tests.{ne-eqb, eqb-true}
+use borrow.Author.Tests.{ne-eqb}
 use Rattle.links.specs.Lists.{at, unassigned, filter, range, bestFrom}
 use Rattle.links.specs.Best.{held, stepBest}
 
@@ -83,13 +83,6 @@ held-step better ok b i h = go (ok i) (eqb b unassigned) refl
     go true false e = pick (better i b) e
     go false true e = rw e
     go false false e = rw e
-
-pub held-getD : (b : ℕ) → Option·getD (held b) unassigned ≡ b
-held-getD b = go (eqb b unassigned) refl
-  where
-    go : (y : Bool) → eqb b unassigned ≡ y → Option·getD (cond y none (some b)) unassigned ≡ b
-    go true e = sym (eqb-true b unassigned e)
-    go false e = refl
 
 -- it stays in range
 pub step-in

@@ -6,11 +6,11 @@ use mathlib.Core.List.{List, [], _∷_, _++_, map, nil≢cons, head-eq-of-cons-e
 use mathlib.Core.Option.{Option, none, some}
 use native.Mathlib.Numerals.{add-one}
 use native.Mathlib.Omega.{arith}
-use lib.ListN.{length, getD, take, drop}
+use lib.ListN.{length, getD, take, drop, replicate}
 use lib.Seq.{take-suc, drop-cons, split-at}
-use lib.Dec.{leb, ltb, eqb}
-use borrow.Author.Tests.{eq-eqb, ne-eqb, eqb-true, eqb-false, lt-ltb, le-ltb}
-use Rattle.links.specs.Lists.{All, filter, any, all, foldl, best, bestFrom, insert, sortBy, range, concatMap, elem}
+use lib.Dec.{eqb}
+use borrow.Author.Tests.{eq-eqb, ne-eqb, eqb-true, eqb-false}
+use Rattle.links.specs.Lists.{All, filter, any, all, foldl, best, bestFrom, insert, sortBy, range, sum, concatMap, elem}
 
 -- by cases on a test, with the equation at hand
 pub split {ℓ} : {A : Type ℓ} (b : Bool) → (b ≡ true → A) → (b ≡ false → A) → A
@@ -272,6 +272,31 @@ unfolding total
 count-concat p f i zero = refl
 count-concat p f i (suc n) = omega (arith, count-append p (f i) (concatMap f (range (suc i) n)), count-concat p f (suc i) n)
 
+-- counts and sums over a range, and sums in either order
+pub count-range : (p : ℕ → Bool) (i n : ℕ) → count p (range i n) ≡ total i n (λ x. tally (p x))
+unfolding total
+count-range p i zero = refl
+count-range p i (suc n) = omega (arith, count-cons p i (range (suc i) n), count-range p (suc i) n)
+
+pub total-swap : (i m j n : ℕ) (f : ℕ → ℕ → ℕ) → total i m (λ x. total j n (λ y. f x y)) ≡ total j n (λ y. total i m (λ x. f x y))
+unfolding total
+total-swap i zero j n f = sym (total-zero j n (λ y. 0) (λ y h k. refl))
+total-swap i (suc m) j n f = omega (arith, total-swap (suc i) m j n f, total-add j n (f i) (λ y. total (suc i) m (λ x. f x y)))
+
+pub sum-ones : (n : ℕ) → sum (replicate n 1) ≡ n
+sum-ones zero = refl
+sum-ones (suc n) = omega (arith, sum-ones n)
+
+-- ---- tests
+
+pub and-true : (b : Bool) → b && true ≡ b
+and-true true = refl
+and-true false = refl
+
+pub and-false : (b : Bool) → b && false ≡ false
+and-false true = refl
+and-false false = refl
+
 pub or-true : (b : Bool) → b || true ≡ true
 or-true true = refl
 or-true false = refl
@@ -279,6 +304,14 @@ or-true false = refl
 pub or-false : (b : Bool) → b || false ≡ b
 or-false true = refl
 or-false false = refl
+
+-- a number at the end of a list
+pub elem-this : (x : ℕ) (xs : List ℕ) → elem x (xs ++ (x ∷ [])) ≡ true
+elem-this x xs = elem-append x xs (x ∷ []) ∙ rw (eq-eqb x x refl) (or-true (elem x xs))
+
+pub filter-append : {A : Type 0} (p : A → Bool) (xs ys : List A) → filter p (xs ++ ys) ≡ filter p xs ++ filter p ys
+filter-append p [] ys = refl
+filter-append p (x ∷ xs) ys = split (p x) (λ e. rw (e, filter-append p xs ys)) (λ e. rw (e, filter-append p xs ys))
 
 -- ---- one more of a list or of a range, as a loop over indices meets them
 

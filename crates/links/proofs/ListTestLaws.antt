@@ -14,7 +14,7 @@ use borrow.Author.Tests.{leb-true, le-leb, lt-leb, ltb-true, ltb-false, lt-ltb, 
 use Rattle.links.specs.Lists.{at, all, range, elem}
 use Rattle.links.specs.Graph.{row, vertexCount, neighborsOf, rowsOf, strictlyRising, neverFalling, goodRow, badOffsets, badLists, listsCause, ListsTested}
 use Rattle.links.specs.ListTest.{validRow, validRows, mirroredRow, mirroredRows, Rising}
-use Rattle.links.proofs.ListLaws.{split, and-l, all-of, all-in, elem-range}
+use Rattle.links.proofs.ListLaws.{split, and-l, all-of, all-in, elem-range, and-false}
 use Rattle.links.proofs.SoundLaws.{sound-lists}
 use Rattle.links.proofs.RowLaws.{length-rows, row-always, query-none}
 
@@ -40,10 +40,6 @@ at-from a (suc n) (suc i) h = at-from (suc a) n i (le-of-suc-le-suc h) ∙ omega
 
 pub at-range : (n i : ℕ) → i < n → at (range 0 n) i ≡ i
 at-range n i h = at-from 0 n i h ∙ zero-add i
-
-pub and-false : (b : Bool) → b && false ≡ false
-and-false true = refl
-and-false false = refl
 
 -- ---- a list in which each number is at least f of each before it: strictly rising for suc, never falling for the number itself
 
@@ -187,7 +183,16 @@ module _ (o l : List ℕ) where
       (all-in (λ v. p v ≡ true) (range 0 n) v (all-of (λ v. p v ≡ true) p (λ x q. q) (range 0 n) e) (elem-range v 0 n (omega arith) (omega (arith, ltb-true v n h)))))
       (λ h. rw (query-none o l v (ltb-false v n h)))
 
-  -- the answer
+  -- the answer, as a test
+  module _ (r : ℕ) (e : r ≡ listsCause o l) where
+    pub lists-bad : (r ≡ 0 → ⊥) → badLists o l ≡ true
+    unfolding listsCause
+    lists-bad f = split (badLists o l) (λ p. p) (λ p. absurd (f (e ∙ rw p)))
+
+    pub lists-fine : r ≡ 0 → badLists o l ≡ false
+    unfolding listsCause
+    lists-fine f = split (badLists o l) (λ p. let z : _≡_ {A = ℕ} 4 0 = rw p at (sym e ∙ f) in absurd (omega arith)) (λ p. p)
+
   pub tested : (b : Bool) → badLists o l ≡ b → ListsTested o l (cond b 4 0)
   unfolding listsCause
   tested true e = record { cause = rw e; sound = λ z. absurd (omega arith) }

@@ -1,12 +1,12 @@
 -- Laws of packed rows: the two slices that hold given rows are read back as these rows, and are sound lists if the rows are sound. Assumes nothing.
 use Prim.Native.Nat.{ℕ, zero, suc, _+_, _-_, _≤_, _<_}
-use mathlib.Core.Path.{_≡_, refl, sym, ap, _∙_}
-use mathlib.Core.Bool.{Bool, true, false, _&&_, cond}
+use mathlib.Core.Path.{_≡_, refl, ap, _∙_}
+use mathlib.Core.Bool.{true, false}
 use mathlib.Core.List.{List, [], _∷_, _++_, append-nil}
 use native.Mathlib.Omega.{arith}
 use native.Mathlib.Nat.{zero-add, not-suc-le-zero, le-of-suc-le-suc}
 use native.Mathlib.Numerals.{add-one}
-use lib.ListN.{length, getD, take, drop, length-append}
+use lib.ListN.{length, take, length-append}
 use lib.Seq.{ext-getD, take-all, take-append-seam, drop-append-add}
 use lib.Dec.{leb}
 use borrow.Author.Tests.{le-leb, lt-leb}

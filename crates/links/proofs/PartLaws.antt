@@ -7,10 +7,10 @@ use mathlib.Core.Logic.{⊎-elim}
 use native.Mathlib.Omega.{arith}
 use native.Mathlib.Nat.{eq-or-lt-of-le, le-of-suc-le-suc}
 use native.Mathlib.Numerals.{add-one}
-use lib.Dec.{leb, ltb}
+use lib.Dec.{leb}
 use lib.ListN.{length, getD, take, drop, set, length-append, replicate, length-replicate, getD-replicate, length-take, length-drop, length-set, take-append-drop, drop-of-length-le, List·getD-append}
-use lib.Seq.{take-suc-set, getD-set-other, take-at, drop-at, take-append-le, drop-append-le, length-take-le, drop-drop, take-take, getD-take, getD-drop, drop-set-add, take-set-lt, set-at, drop-cons, getD-append-add, ext-getD, take-add, drop-set-lt, take-set-le, getD-at, drop-length, take-suc, take-all, drop-nil}
-use borrow.Author.Tests.{leb-true, leb-false, ltb-true, ltb-false}
+use lib.Seq.{take-suc-set, getD-set-other, take-at, drop-at, length-take-le, getD-take, getD-drop, drop-set-add, take-set-lt, set-at, drop-cons, getD-append-add, ext-getD, drop-set-lt, take-set-le, getD-at, drop-length, take-suc, take-all, drop-nil}
+use borrow.Author.Tests.{leb-true, leb-false}
 use Rattle.links.specs.Lists.{at}
 use Rattle.links.specs.Parts.{part, putBack, copied, filledPart, copiedPart, table, Kept}
 use Rattle.links.proofs.ListLaws.{split}
@@ -51,13 +51,6 @@ part-part w a e b f h =
     let p : a + (b + i) ≡ a + b + i = omega arith in
     let q : i < a + f - (a + b) = omega arith in
     getD-part (part w a e) b f i m′ ∙ getD-part w a e (b + i) (omega arith) ∙ rw (p, getD-part w (a + b) (a + f) i q))
-
--- two parts, the one where the other ends
-pub part-join : (w : List ℕ) (a b e : ℕ) → a ≤ b → b ≤ e → part w a b ++ part w b e ≡ part w a e
-part-join w a b e h k =
-    let p : a + (b - a) ≡ b = omega arith in
-    let q : b - a + (e - b) ≡ e - a = omega arith in
-    rw (← q, take-add (b - a) (e - b) (drop a w), drop-drop (b - a) a w, p)
 
 -- ---- a part that comes back
 
@@ -103,10 +96,6 @@ module _ (w : List ℕ) (a e : ℕ) (ys : List ℕ) (h : a ≤ e) (k : e ≤ len
       let q : drop (e - a) (drop a (putBack w a e ys)) ≡ drop (e - a) (drop a w) = rw (drop-at (take a w) (ys ++ drop (e - a) (drop a w)) a (front w a e ys h k l), drop-at ys (drop (e - a) (drop a w)) (e - a) l) in
       rw (q, take-at (take a w) (ys ++ drop (e - a) (drop a w)) a (front w a e ys h k l))
 
-  -- a part inside it
-  pub part-putBack-in : (b f : ℕ) → f ≤ e - a → part (putBack w a e ys) (a + b) (a + f) ≡ part ys b f
-  part-putBack-in b f m = sym (part-part (putBack w a e ys) a e b f m) ∙ ap (λ (t : List ℕ). part t b f) (part-putBack w a e ys h k l)
-
 -- what is there, put back there
 pub putBack-part : (w : List ℕ) (a e : ℕ) → putBack w a e (part w a e) ≡ w
 putBack-part w a e = rw (take-append-drop (e - a) (drop a w), take-append-drop a w)
@@ -121,19 +110,6 @@ pub putBack-set-rest : (w : List ℕ) (a i v : ℕ) → a ≤ length w → putBa
 putBack-set-rest w a i v h =
     let l : length (drop a w) ≡ length w - a = length-drop a w in
     rw (take-all (length w - a) (drop a w) (omega arith), drop-of-length-le (drop a w) {i = length w - a} (omega arith), append-nil, ← drop-set-add a w i v, ← take-set-le a w (a + i) v (omega arith), take-append-drop a (set w (a + i) v))
-
--- a part of a part that comes back
-pub putBack-inner : (w : List ℕ) (a e b f : ℕ) (ys : List ℕ) → a ≤ e → e ≤ length w → b ≤ f → f ≤ e - a
-    → putBack w a e (putBack (part w a e) b f ys) ≡ putBack w (a + b) (a + f) ys
-putBack-inner w a e b f ys h k m n =
-    let d : List ℕ = drop a w in
-    let p : a + f - (a + b) ≡ f - b = omega arith in
-    let q : b + (f - b) ≡ f = omega arith in
-    let r : drop (f - b) (drop b (part w a e)) ++ drop (e - a) d ≡ drop (f - b) (drop b d) =
-    rw (drop-drop (f - b) b (part w a e), drop-drop (f - b) b d, q)
-    (sym (drop-append-le f (part w a e) (drop (e - a) d) (rw (length-part w a e h k) n)) ∙ ap (drop f) (take-append-drop (e - a) d)) in
-    rw (p, take-add a b w, ← drop-drop b a w, ← r, take-take b (e - a) d (omega arith))
-    (simp append-assoc)
 
 -- ---- a store, seen through a part
 
@@ -281,11 +257,6 @@ same-below v w a b f l q h =
     (λ i p m.
     sym (getD-take a v i 0 (omega arith)) ∙ ap (λ (t : List ℕ). getD t i 0) q ∙ getD-take a w i 0 (omega arith))
 
--- and what is putBack at b or above leaves it so
-pub take-putBack-above : (w : List ℕ) (a b e : ℕ) (ys : List ℕ) → a ≤ b → b ≤ length w → take a (putBack w b e ys) ≡ take a w
-take-putBack-above w a b e ys h k =
-    take-append-le a (take b w) (ys ++ drop (e - b) (drop b w)) (rw (length-take-le b w k) h) ∙ take-take a b w h
-
 -- nothing changed
 pub kept-refl : (a e : ℕ) (w : List ℕ) → Kept a e w w
 kept-refl a e w = record { same-length = refl; below = λ i h. refl; beyond = λ i h. refl }
@@ -314,51 +285,12 @@ kept-set a e w w₀ i x k h l = record {
 pub kept-putBack : (w : List ℕ) (a e : ℕ) (ys : List ℕ) → a ≤ e → e ≤ length w → length ys ≡ e - a → Kept a e (putBack w a e ys) w
 kept-putBack w a e ys h k l = record { same-length = length-putBack w a e ys h k l; below = getD-putBack-before w a e ys h k l; beyond = getD-putBack-after w a e ys h k l }
 
--- a part from b up to f, lent within a place from a up to e that was changed before
-pub kept-putBack-in : (a e b f : ℕ) (w w₀ ys : List ℕ) → Kept a e w w₀ → a ≤ b → b ≤ f → f ≤ e → f ≤ length w → length ys ≡ f - b → Kept a e (putBack w b f ys) w₀
-kept-putBack-in a e b f w w₀ ys k h m n o l = kept-trans a e (putBack w b f ys) w w₀ (kept-wide b f a e (putBack w b f ys) w h n (kept-putBack w b f ys m o l)) k
-
--- a part that was lent, and changed only from b up to f
-pub kept-lent : (w : List ℕ) (a e b f : ℕ) (ys : List ℕ) → a ≤ e → e ≤ length w → Kept b f ys (part w a e) → Kept (a + b) (a + f) (putBack w a e ys) w
-kept-lent w a e b f ys h k q = record {
-  same-length = length-putBack w a e ys h k l;
-  below = λ i m. by-place i (λ j n. q .below j (omega arith));
-  beyond = λ i m. by-place i (λ j n. q .beyond j (omega arith));
-}
-  where
-    l : length ys ≡ e - a
-    l = q .same-length ∙ length-part w a e h k
-
-    by-place : (i : ℕ) → ((j : ℕ) → a + j ≡ i → at ys j ≡ at (part w a e) j) → at (putBack w a e ys) i ≡ at w i
-    by-place i t = split (ltb i a)
-        (λ p. getD-putBack-before w a e ys h k l i (ltb-true i a p))
-        (λ p. split (ltb i e)
-        (λ r. let s : a + (i - a) ≡ i = omega (arith, ltb-false i a p) in
-        let u : i - a < e - a = omega (arith, ltb-false i a p, ltb-true i e r) in
-        rw s at (getD-putBack-in w a e ys h k l (i - a) u ∙ t (i - a) s ∙ getD-part w a e (i - a) u))
-        (λ r. getD-putBack-after w a e ys h k l i (ltb-false i e r)))
-
 -- a part below it, and beyond it, is as it was
 pub kept-part-before : (a e : ℕ) (w w₀ : List ℕ) → Kept a e w w₀ → (b f : ℕ) → f ≤ a → part w b f ≡ part w₀ b f
 kept-part-before a e w w₀ k b f h = part-agree w w₀ b f (k .same-length) (λ i p q. k .below i (omega arith))
 
 pub kept-part-after : (a e : ℕ) (w w₀ : List ℕ) → Kept a e w w₀ → (b f : ℕ) → e ≤ b → part w b f ≡ part w₀ b f
 kept-part-after a e w w₀ k b f h = part-agree w w₀ b f (k .same-length) (λ i p q. k .beyond i (omega arith))
-
--- all below it, and all beyond it
-pub kept-take : (a e : ℕ) (w w₀ : List ℕ) → Kept a e w w₀ → take a w ≡ take a w₀
-kept-take a e w w₀ k = let z : a - 0 ≡ a = omega arith in rw z at (kept-part-before a e w w₀ k 0 a (omega arith))
-
-pub kept-drop : (a e : ℕ) (w w₀ : List ℕ) → Kept a e w w₀ → drop e w ≡ drop e w₀
-kept-drop a e w w₀ k =
-    ext-getD 0 (drop e w) (drop e w₀) (simp (length-drop, k .same-length)) (λ i h. rw (getD-drop e w i 0, getD-drop e w₀ i 0) (k .beyond (e + i) (omega arith)))
-
--- so it is the old with the new part put back
-pub kept-is : (a e : ℕ) (w w₀ : List ℕ) → a ≤ e → Kept a e w w₀ → w ≡ putBack w₀ a e (part w a e)
-kept-is a e w w₀ h k =
-    let s : a + (e - a) ≡ e = omega arith in
-    let t : drop (e - a) (drop a w) ≡ drop (e - a) (drop a w₀) = rw (drop-drop (e - a) a w, drop-drop (e - a) a w₀, s) (kept-drop a e w w₀ k) in
-    sym (putBack-part w a e) ∙ rw (kept-take a e w w₀ k, t)
 
 -- ---- a part that was filled, and one that was copied to
 

@@ -1,16 +1,15 @@
 -- Laws of ranges: what they end with, what passes a test among them, and rising lists as such. Assumes nothing.
 use Prim.Native.Nat.{ℕ, zero, suc, _+_, _-_, _≤_, _<_}
 use mathlib.Core.Path.{_≡_, refl, sym, ap, _∙_}
-use mathlib.Core.Bool.{Bool, true, false, not, _&&_, _||_, cond, false≢true}
+use mathlib.Core.Bool.{Bool, true, false, cond, false≢true}
 use mathlib.Core.List.{List, [], _∷_, _++_, append-assoc}
 use native.Mathlib.Omega.{arith}
 use native.Mathlib.Numerals.{add-one}
-use lib.ListN.{length}
 use lib.Dec.{ltb, eqb}
-use borrow.Author.Tests.{lt-ltb, le-ltb, ltb-true, ne-eqb, eqb-true, eqb-false}
-use Rattle.links.specs.Lists.{All, filter, any, all, range, elem, concatMap}
+use borrow.Author.Tests.{lt-ltb, ltb-true, ne-eqb, eqb-true, eqb-false}
+use Rattle.links.specs.Lists.{All, filter, all, range, elem, concatMap}
 use Rattle.links.specs.Graph.{strictlyRising}
-use Rattle.links.proofs.ListLaws.{split, all-of, all-to, all-in}
+use Rattle.links.proofs.ListLaws.{split, all-of}
 
 pub filter-ext : (p q : ℕ → Bool) (i n : ℕ) → ((x : ℕ) → i ≤ x → x < i + n → p x ≡ q x) → filter p (range i n) ≡ filter q (range i n)
 filter-ext p q i zero e = refl

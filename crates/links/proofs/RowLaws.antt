@@ -29,11 +29,15 @@ pub row-query : (o l : List ℕ) (v : ℕ) → v < vertexCount o → row (rowsOf
 unfolding rowsOf
 row-query o l v h = getD-map-range (neighborsOf o l) 0 (vertexCount o) v h ∙ ap (neighborsOf o l) (zero-add v)
 
--- what holds of each of a list holds at each place
+-- what holds of each of a list holds at each place, and the other way round
 pub all-place : (P : ℕ → Type 0) (xs : List ℕ) (i : ℕ) → All P xs → i < length xs → P (at xs i)
 all-place P [] i a h = absurd (not-suc-le-zero h)
 all-place P (x ∷ xs) zero a h = a .0
 all-place P (x ∷ xs) (suc i) a h = all-place P xs i (a .1) (le-of-suc-le-suc h)
+
+pub by-place : (P : ℕ → Type 0) (xs : List ℕ) → ((i : ℕ) → i < length xs → P (at xs i)) → All P xs
+by-place P [] h = tt
+by-place P (x ∷ xs) h = (h 0 (omega arith), by-place P xs (λ i k. h (suc i) (omega arith)))
 
 -- a strictly rising list, by its places
 pub rises-by : (xs : List ℕ) → strictlyRising xs ≡ true → (i j : ℕ) → i < j → j < length xs → at xs i < at xs j

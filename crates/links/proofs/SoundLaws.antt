@@ -1,15 +1,15 @@
 -- Laws of sound rows: below their number, strictly rising, self-free, symmetric. The list test leaves such. Assumes nothing.
 use Prim.Native.Nat.{ℕ, zero, suc, _+_, _-_, _≤_, _<_}
-use mathlib.Core.Path.{_≡_, refl, sym, ap, _∙_, subst}
-use mathlib.Core.Bool.{Bool, true, false, not, _&&_, _||_, cond, true≢false, false≢true}
-use mathlib.Core.List.{List, [], _∷_, _++_, map}
+use mathlib.Core.Path.{_≡_, refl, sym}
+use mathlib.Core.Bool.{Bool, true, false, not, _&&_, _||_, false≢true}
+use mathlib.Core.List.{List, [], _∷_}
 use native.Mathlib.Omega.{arith}
-use lib.ListN.{length, getD}
+use lib.ListN.{length}
 use lib.Dec.{leb, ltb, eqb}
-use borrow.Author.Tests.{leb-true, eq-eqb, ne-eqb, eqb-true, eqb-false, ltb-true, ltb-false, lt-ltb, le-ltb, not-false}
-use Rattle.links.specs.Lists.{at, All, filter, any, all, range, concatMap, elem}
-use Rattle.links.specs.Graph.{row, vertices, vertexCount, strictlyRising, neverFalling, rowsOf, badOffsets, goodRow, badLists, listsCause, Sound, SoundLists}
-use Rattle.links.proofs.ListLaws.{split, and-l, and-r, or-l, or-r, not-of, iff-eq, tally, count, all-of, all-to, all-in, elem-range, length-range}
+use borrow.Author.Tests.{leb-true, ne-eqb, eqb-true, eqb-false, ltb-true, not-false}
+use Rattle.links.specs.Lists.{at, All, all, elem}
+use Rattle.links.specs.Graph.{row, vertices, vertexCount, strictlyRising, neverFalling, rowsOf, badOffsets, goodRow, badLists, Sound, SoundLists}
+use Rattle.links.proofs.ListLaws.{split, and-l, and-r, or-l, or-r, not-of, iff-eq, tally, count, all-of, all-to, all-in, elem-range}
 
 -- a number below all of a list is not in it
 none-low : (u : ℕ) (l : List ℕ) → All (λ w. ltb u w ≡ true) l → count (eqb u) l ≡ 0

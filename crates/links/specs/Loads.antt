@@ -1,6 +1,6 @@
 -- Rule 1: loads. Assumes nothing.
 use Prim.Native.Nat.{ℕ, _+_, _-_, _*_, _/_, min}
-use mathlib.Core.Bool.{Bool, _||_, cond}
+use mathlib.Core.Bool.{_||_, cond}
 use lib.Dec.{ltb, eqb}
 
 abbrev pub u64Max : ℕ

@@ -22,6 +22,7 @@ pub use owners::Owner;
 pub use owners::from_owners;
 pub use owners::owned_count;
 pub use owners::owner_of;
+pub use owners::stray_owner;
 pub use parts::copy_into;
 pub use parts::copy_part;
 pub use parts::fill;

@@ -64,7 +64,8 @@ pub fn owned_count(ranks: u32, owners: &[u32], rank: u32) -> Count
 }
 
 // Whether an owner is not below the number of ranks.
-fn stray_owner(owners: &[u32], ranks: u32) -> bool
+// Rules out: the last owner not looked at; an owner equal to the number of ranks let through.
+pub fn stray_owner(owners: &[u32], ranks: u32) -> bool
     ensures { λ r. ⌜ r ≡ strayOwner ranks (now (owners .entry)) ⌝ }
 {
     let mut i = 0;

@@ -1,12 +1,12 @@
 -- An input longer than any file: what stands in its first 1,053 bytes decides its text. The program `share` reads no more. Assumes nothing.
 use Prim.Native.Nat.{ℕ, _+_, _*_, _≤_, _<_}
-use mathlib.Core.Path.{_≡_, refl, ap}
-use mathlib.Core.Bool.{true, false, _||_, cond}
+use mathlib.Core.Path.{_≡_}
+use mathlib.Core.Bool.{false, _||_, cond}
 use mathlib.Core.List.{List}
 use native.Mathlib.Omega.{arith}
 use lib.ListN.{length, take}
 use lib.Seq.{getD-take, length-take-le}
-use lib.Dec.{eqb, ltb}
+use lib.Dec.{ltb}
 use borrow.Author.Tests.{le-ltb, ltb-false, ne-eqb}
 use Rattle.links.proofs.ListLaws.{split, or-l, or-r}
 use Rattle.multilevel.specs.File.{number, overProgramLimits, linkCountOf, fileCause}

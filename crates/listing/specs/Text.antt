@@ -1,7 +1,7 @@
 -- Texts as lists of bytes, numbers in them, and a text in a lent slice. Assumes nothing.
 use Prim.Native.Nat.{ℕ, zero, suc, _/_, _%_}
 use Prim.Native.Char.{code}
-use Prim.Native.String.{String, [] as emptyText, _∷_ as _then_}
+use Prim.Native.String.{String, _∷_ as _then_, [] as emptyText}
 use mathlib.Core.Path.{_≡_}
 use mathlib.Core.Bool.{cond}
 use mathlib.Core.List.{List, [], _∷_, _++_}

@@ -1,31 +1,29 @@
 -- Laws of a call: its division on the work that it needs, the rules that it goes by, and its finest level. Assumes nothing.
-use Prim.Native.Nat.{ℕ, zero, suc, _+_, _*_, _≤_, _<_, _^_}
+use Prim.Native.Nat.{ℕ, _+_, _*_}
 use mathlib.Core.Path.{_≡_, refl, sym, ap, _∙_}
-use mathlib.Core.Bool.{Bool, true, false, _||_, cond}
-use mathlib.Core.List.{List, []}
+use mathlib.Core.Bool.{false}
+use mathlib.Core.List.{List}
 use native.Mathlib.Nat.{add-mul}
 use native.Mathlib.Omega.{arith}
-use lib.ListN.{length, replicate, length-replicate}
-use lib.Dec.{eqb, ltb}
+use lib.ListN.{length, replicate}
+use lib.Dec.{ltb}
 use borrow.Author.Tests.{eq-eqb, le-ltb}
 use Rattle.links.specs.Lists.{sum}
 use Rattle.links.specs.Loads.{balance}
-use Rattle.links.specs.Graph.{vertexCount, badLists}
-use Rattle.links.specs.Options.{badOptions}
-use Rattle.links.proofs.ListLaws.{split}
+use Rattle.links.specs.Graph.{vertexCount}
+use Rattle.links.proofs.ListLaws.{sum-ones}
 use Rattle.links.proofs.RowLaws.{length-rows}
-use Rattle.stages.specs.Level.{offsetsAt, neighborsAt, rowsAt, weightsAt, ownersAt, Ready, balanceIn}
-use Rattle.stages.specs.declared.level.HierarchyLevel.{HierarchyLevel}
+use Rattle.stages.specs.Level.{rowsAt, weightsAt, ownersAt, balanceIn}
 use Rattle.multilevel.specs.declared.driver.Answer.{Answer}
-use Rattle.multilevel.specs.Causes.{Call, badCounts, overLimits, workNeed, needOf, tooShort, firstOf, earlyCause}
+use Rattle.multilevel.specs.Causes.{Call, workNeed, needOf, tooShort, earlyCause}
 use Rattle.multilevel.specs.Division.{division, finestWeights}
 use Rattle.multilevel.specs.Demand3.{siteRows, balanceOf, keptSteps}
-use Rattle.multilevel.specs.Room.{unitOf, levelAt, SiteFits, SiteLaid}
+use Rattle.multilevel.specs.Room.{unitOf, SiteFits, SiteLaid}
 use Rattle.multilevel.specs.Driver.{Told}
 use Rattle.multilevel.specs.DriverCode.{Placed, LevelSolved, rulesFor, siteLevel, Divisible}
-use Rattle.multilevel.proofs.DivisionLaws.{Tested, tested}
-use Rattle.multilevel.proofs.Demand3Laws.{sum-ones}
-use Rattle.multilevel.proofs.RoomLaws.{laid-at, laid-wide}
+use Rattle.multilevel.proofs.DivisionLaws.{tested}
+use Rattle.multilevel.proofs.RoomLaws.{laid-at}
+use Rattle.stages.proofs.LevelLaws.{laid-by}
 
 -- ---- the same division on the work that it needs
 
@@ -83,7 +81,7 @@ module _ (c : Call) (w : List ℕ) (d : Divisible c w) where
   site-fits =
       let t = tested c (d .passed) in
       record {
-        laid = laid-wide (siteLevel c) (0 + unitOf (vertexCount (c .offsets)) (length (c .neighbors))) (length w) (omega (arith, work-parts)) (laid-at (vertexCount (c .offsets)) (length (c .neighbors)) 0);
+        laid = laid-by (length w) (laid-at (vertexCount (c .offsets)) (length (c .neighbors)) 0) (omega (arith, work-parts));
         offsets-sized = omega (arith, t .lists .some);
         neighbors-sized = refl;
       }

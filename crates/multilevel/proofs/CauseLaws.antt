@@ -2,13 +2,12 @@
 use Prim.Native.Nat.{ℕ, _+_, _*_, _≤_}
 use mathlib.Core.Path.{_≡_, sym, _∙_}
 use mathlib.Core.Bool.{Bool, true, false, _||_}
-use mathlib.Core.List.{List}
 use native.Mathlib.Omega.{arith}
 use native.Mathlib.Nat.{mul-le-mul}
 use lib.ListN.{length}
 use lib.Dec.{ltb, eqb}
 use borrow.Author.Tests.{eqb-false, ltb-false}
-use Rattle.links.specs.Graph.{vertexCount, badLists, listsCause}
+use Rattle.links.specs.Graph.{vertexCount, badLists}
 use Rattle.links.specs.Options.{badOptions, optionsCause}
 use Rattle.links.specs.declared.options.AbtmMultilevelOptions.{AbtmMultilevelOptions}
 use Rattle.multilevel.specs.Causes.{Call, badCounts, overLimits, workNeed, Limited, firstOf, tooShort, earlyCause}
@@ -66,15 +65,6 @@ options-bad o r e f = split (badOptions o) (λ p. p) (λ p. absurd (f (e ∙ rw 
 pub options-fine : (o : AbtmMultilevelOptions) (r : ℕ) → r ≡ optionsCause o → r ≡ 0 → badOptions o ≡ false
 unfolding optionsCause
 options-fine o r e f = split (badOptions o) (λ p. let z : _≡_ {A = ℕ} 1 0 = rw p at (sym e ∙ f) in absurd (omega arith)) (λ p. p)
-
-pub lists-bad : (r : ℕ) (offsets neighbors : List ℕ) → r ≡ listsCause offsets neighbors → (r ≡ 0 → ⊥) → badLists offsets neighbors ≡ true
-unfolding listsCause
-lists-bad r offsets neighbors e f = split (badLists offsets neighbors) (λ p. p) (λ p. absurd (f (e ∙ rw p)))
-
-pub lists-fine : (r : ℕ) (offsets neighbors : List ℕ) → r ≡ listsCause offsets neighbors → r ≡ 0 → badLists offsets neighbors ≡ false
-unfolding listsCause
-lists-fine r offsets neighbors e f =
-    split (badLists offsets neighbors) (λ p. let z : _≡_ {A = ℕ} 4 0 = rw p at (sym e ∙ f) in absurd (omega arith)) (λ p. p)
 
 -- ---- the tests on counts, as they are made
 

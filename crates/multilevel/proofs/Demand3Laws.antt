@@ -1,12 +1,12 @@
 -- Demand 3 of every call. Assumes nothing.
-use Prim.Native.Nat.{ℕ, zero, suc, _+_, _*_, _/_, _≤_, _<_}
+use Prim.Native.Nat.{ℕ, _+_, _*_, _/_, _≤_, _<_}
 use mathlib.Core.Path.{_≡_, refl, sym, ap, _∙_, subst}
 use mathlib.Core.Logic.{_⊎_, inl, inr}
 use mathlib.Core.Bool.{Bool, true, false, cond}
 use mathlib.Core.List.{List, [], _∷_, _++_, nil≢cons}
 use native.Mathlib.Nat.{div-mul-le-self, le-div-iff-mul-le}
 use native.Mathlib.Omega.{arith}
-use lib.ListN.{length, replicate, length-replicate}
+use lib.ListN.{length, length-replicate}
 use lib.Dec.{ltb, eqb}
 use borrow.Author.Tests.{ne-eqb, eqb-true, le-ltb}
 use Rattle.links.specs.Lists.{unassigned, any, range, sum}
@@ -20,7 +20,7 @@ use Rattle.stages.specs.Moves.{after}
 use Rattle.multilevel.specs.Causes.{Call, earlyCause}
 use Rattle.multilevel.specs.Division.{Outcome, refused, divided, Level, Run, Trace, noGrowth, swapPasses, solve, stepsOf, statsOf, abtmMultilevelPartition, finestWeights, division}
 use Rattle.multilevel.specs.Demand3.{siteRows, balanceOf, keptSteps, ladder, growthOn, moved, FairTurn, FairLevel, FairShares, Demand3}
-use Rattle.links.proofs.ListLaws.{split, all-at}
+use Rattle.links.proofs.ListLaws.{split, all-at, sum-ones}
 use Rattle.links.proofs.RowLaws.{length-rows}
 use Rattle.stages.proofs.StepLaws.{foldl-append, length-steps}
 use Rattle.stages.proofs.GrowthLaws.{allPass}
@@ -39,11 +39,6 @@ cap-share total k t h j =
     let b : eqb k 0 ≡ false = ne-eqb k 0 (λ e. omega arith) in
     let product = total * (1000 + t) in
     rw (a, b) (div-mono (saturating product) product (1000 * k) (omega arith) (omega arith))
-
--- the finest weights add up to the number of vertices
-pub sum-ones : (n : ℕ) → sum (replicate n 1) ≡ n
-sum-ones zero = refl
-sum-ones (suc n) = omega (arith, sum-ones n)
 
 module _ (b : Balance) (rows : List (List ℕ)) (swapping : ℕ) (cs : List Coarse) (t : Trace) (d : Done b swapping rows (finestWeights rows) cs t) where
   -- swaps leave the numbers owned as the moves left them

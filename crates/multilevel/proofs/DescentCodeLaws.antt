@@ -1,19 +1,18 @@
 -- The laws of the descent, as `solve` meets them: with the positions that its calls gave. Assumes nothing.
-use Prim.Native.Nat.{ℕ, suc, _+_, _-_, _≤_, _<_}
-use mathlib.Core.Path.{_≡_, refl, sym, ap, _∙_}
+use Prim.Native.Nat.{ℕ, suc, _-_, _≤_, _<_}
+use mathlib.Core.Path.{_≡_, sym, _∙_}
 use mathlib.Core.List.{List}
 use native.Mathlib.Omega.{arith}
-use lib.ListN.{length}
 use Rattle.links.specs.Options.{addedPairs}
 use Rattle.links.specs.declared.options.AbtmMultilevelStats.{AbtmMultilevelStats}
-use Rattle.stages.specs.CoarsenCode.{Coarsenable, CoarsenedOnce, stepOf, entriesOf, nextOf}
+use Rattle.stages.specs.CoarsenCode.{Coarsenable, CoarsenedOnce, stepOf, nextOf, resized}
 use Rattle.stages.specs.declared.level.HierarchyLevel.{HierarchyLevel}
 use Rattle.stages.specs.declared.coarsen.Coarsened.{Coarsened}
 use Rattle.stages.specs.declared.coarsen.Coarsened.the-variants.{Same, Smaller}
 use Rattle.multilevel.specs.declared.driver.Answer.{Answer}
 use Rattle.multilevel.specs.declared.driver.Answer.the-variants.{Divided, Refused}
 use Rattle.multilevel.specs.declared.driver.Rules.{Rules}
-use Rattle.multilevel.specs.Room.{movedUp, sizedTo, Stacked, TakenOver}
+use Rattle.multilevel.specs.Room.{movedUp, Stacked, TakenOver}
 use Rattle.multilevel.specs.DriverCode.{Placed, Refining, LevelRefined, LevelGrown, LevelSolved}
 use Rattle.multilevel.proofs.PlaceLaws.{placed-last}
 use Rattle.multilevel.proofs.DescentLaws.{answer-same, Fewer, answer-fewer, solved-small, solved-same, coarsenable, step-kept, step-placed, coarse-placed, solved-refused, stacked, refining, solved-finer}
@@ -42,7 +41,7 @@ module _ (w : List ℕ) (l : HierarchyLevel) (q : Rules) (left : ℕ) (p : Place
           solved-same w l q left p (left - 1) one-less w₁ w₂ a hs (answer-same (stepOf w l) (l .vertices) (sym e ∙ step .answer)) (step-kept w l q left p (left - 1) one-less w₁ a₁ step) g
 
       -- it did
-      module _ (groups entries pairs singletons : ℕ) (ea : a₁ ≡ Smaller groups entries pairs singletons) (coarse : HierarchyLevel) (ec : coarse ≡ sizedTo next groups entries) where
+      module _ (groups entries pairs singletons : ℕ) (ea : a₁ ≡ Smaller groups entries pairs singletons) (coarse : HierarchyLevel) (ec : coarse ≡ resized next groups entries) where
         fewer : Fewer (stepOf w l) (l .vertices) groups entries pairs singletons
         fewer = answer-fewer (stepOf w l) (l .vertices) groups entries pairs singletons (sym ea ∙ step .answer)
 

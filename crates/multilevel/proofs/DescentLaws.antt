@@ -1,26 +1,23 @@
 -- Laws of the driver's descent: a level that is not coarsened, and one over the coarser level that a step made. Assumes nothing.
-use Prim.Native.Nat.{ℕ, zero, suc, _+_, _*_, _-_, _≤_, _<_}
-use mathlib.Core.Path.{_≡_, refl, sym, ap, _∙_}
-use mathlib.Core.Bool.{Bool, true, false, cond}
+use Prim.Native.Nat.{ℕ, suc, _+_, _*_, _-_, _≤_, _<_}
+use mathlib.Core.Path.{_≡_, refl, ap, _∙_}
 use mathlib.Core.List.{List, [], _∷_, map}
 use native.Mathlib.Nat.{suc-mul}
 use native.Mathlib.Omega.{arith}
 use lib.ListN.{length}
 use lib.Dec.{eqb, ltb}
 use borrow.Author.Tests.{ltb-true, ltb-false, eqb-true, eqb-false}
-use Rattle.links.specs.Lists.{at, All, sum}
+use Rattle.links.specs.Lists.{at, All}
 use Rattle.links.specs.Parts.{Kept}
-use Rattle.links.specs.Loads.{Balance}
 use Rattle.links.specs.Owners.{fromOwners}
 use Rattle.links.specs.Options.{addedPairs, addedMoves}
 use Rattle.links.specs.declared.options.AbtmMultilevelStats.{AbtmMultilevelStats}
 use Rattle.links.proofs.ListLaws.{split}
-use Rattle.links.proofs.RowLaws.{all-place}
+use Rattle.links.proofs.RowLaws.{all-place, by-place}
 use Rattle.links.proofs.PartLaws.{length-part, kept-wide, kept-trans, kept-part-before}
-use Rattle.stages.specs.Coarsen.{Coarse, coarsenOnce}
-use Rattle.stages.specs.Level.{rowsAt, weightsAt, groupAt, ownersAt, Laid, Ready, balanceIn}
+use Rattle.stages.specs.Coarsen.{Coarse}
+use Rattle.stages.specs.Level.{rowsAt, weightsAt, groupAt, ownersAt, Laid, balanceIn}
 use Rattle.stages.specs.CoarsenCode.{Coarsenable, CoarsenedOnce, stepOf, entriesOf, nextOf, answerOf}
-use Rattle.stages.specs.MovesCode.{Ranked}
 use Rattle.stages.specs.declared.level.HierarchyLevel.{HierarchyLevel}
 use Rattle.stages.specs.declared.coarsen.Coarsened.{Coarsened}
 use Rattle.stages.specs.declared.coarsen.Coarsened.the-variants.{Same, Smaller}
@@ -31,16 +28,12 @@ use Rattle.multilevel.specs.declared.driver.Answer.{Answer}
 use Rattle.multilevel.specs.declared.driver.Answer.the-variants.{Divided, Refused}
 use Rattle.multilevel.specs.declared.driver.Rules.{Rules}
 use Rattle.multilevel.specs.Division.{coarsenings}
-use Rattle.multilevel.specs.Room.{movedUp, sizedTo, Stacked, TakenOver}
+use Rattle.multilevel.specs.Room.{movedUp, Stacked, TakenOver}
 use Rattle.multilevel.specs.Driver.{movesFrom, movedFrom, answerFor, Told}
 use Rattle.multilevel.specs.DriverCode.{Placed, Refining, LevelRefined, LevelGrown, LevelSolved}
 use Rattle.multilevel.proofs.DriverLaws.{coarsen-last, coarsen-small, coarsen-same, coarsen-more}
-use Rattle.multilevel.proofs.SolveLaws.{divided-of, refused-of, finer-refused, finer-check, finer-moved, told-ranked}
+use Rattle.multilevel.proofs.SolveLaws.{finer-refused, finer-check, finer-moved, told-ranked}
 use Rattle.multilevel.proofs.PlaceLaws.{rooms, placed-last, placed-rows, placed-weights, placed-kept, kept-all}
-
-by-place : (P : ℕ → Type 0) (xs : List ℕ) → ((i : ℕ) → i < length xs → P (at xs i)) → All P xs
-by-place P [] h = tt
-by-place P (x ∷ xs) h = (h 0 (omega arith), by-place P xs (λ i k. h (suc i) (omega arith)))
 
 -- ---- what a step's answer says
 
@@ -75,9 +68,6 @@ module _ (c : Coarse) (n : ℕ) where
 -- ---- a level that is not coarsened
 
 module _ (w : List ℕ) (l : HierarchyLevel) (q : Rules) (left : ℕ) (p : Placed w l q left) where
-  abbrev unchanged : List ℕ → Type 0
-  unchanged w₁ = Kept (l .«fine_to_coarse») (length w) w₁ w
-
   below-map : l .weights + l .vertices ≤ l .«fine_to_coarse»
   below-map = p .ready .laid .weights-in
 

@@ -1,26 +1,24 @@
 -- Laws of the division, level by level, as the driver meets it. Assumes nothing.
-use Prim.Native.Nat.{ℕ, zero, suc, _+_, _*_, _≤_, _<_}
+use Prim.Native.Nat.{ℕ, suc, _+_, _≤_, _<_}
 use mathlib.Core.Path.{_≡_, refl, sym, ap, _∙_}
-use mathlib.Core.Bool.{Bool, true, false, cond}
-use mathlib.Core.List.{List, [], _∷_, _++_, map, append-nil}
+use mathlib.Core.Bool.{cond}
+use mathlib.Core.List.{List, [], _∷_, _++_, map}
 use native.Mathlib.Nat.{zero-add, min-eq-left}
 use native.Mathlib.Omega.{arith}
 use lib.ListN.{length, length-append}
-use lib.Dec.{leb, ltb, eqb}
-use borrow.Author.Tests.{lt-ltb, le-ltb, le-leb, lt-leb, eq-eqb, ne-eqb, eqb-true, eqb-false}
-use Rattle.links.specs.Lists.{at, unassigned, any, foldl, sum}
+use lib.Dec.{eqb}
+use borrow.Author.Tests.{lt-ltb, le-ltb, le-leb, lt-leb, eq-eqb, ne-eqb, eqb-false}
+use Rattle.links.specs.Lists.{foldl, sum}
 use Rattle.links.specs.Loads.{Balance, u64Max, saturating}
 use Rattle.links.specs.Options.{zeroStats, addedPairs, addedMoves, grownStats, measuredStats}
 use Rattle.links.specs.Graph.{cutEntries, volume}
 use Rattle.links.specs.Owners.{fromOwners}
-use Rattle.links.specs.declared.options.AbtmMultilevelStats.{AbtmMultilevelStats}
 use Rattle.links.proofs.ListLaws.{split}
 use Rattle.stages.specs.Coarsen.{Coarse, coarsenOnce}
-use Rattle.stages.specs.Growth.{Growth, restartCount}
-use Rattle.stages.specs.Moves.{Step, after, refineByCut, repeat}
+use Rattle.stages.specs.Growth.{restartCount}
+use Rattle.stages.specs.Moves.{after, refineByCut, repeat}
 use Rattle.stages.specs.Swaps.{refineFinePairSwaps}
-use Rattle.stages.proofs.StepLaws.{foldl-append}
-use Rattle.multilevel.specs.Division.{Level, Trace, coarsenings, coarsestRows, refine, grow, solve, takeOver, stepsOf, statsOf, listLength}
+use Rattle.multilevel.specs.Division.{Level, Trace, coarsenings, refine, grow, solve, takeOver, statsOf, listLength}
 use Rattle.multilevel.specs.Driver.{solved, movesFrom, movedFrom, finestSwaps, stepCount, statsSoFar}
 
 -- ---- when coarsening goes on

@@ -1,21 +1,20 @@
 -- Laws of the division's end in the work slice: swaps and measures, owners written, work zeroed. Assumes nothing.
-use Prim.Native.Nat.{ℕ, suc, _+_, _-_, _*_, _≤_, _<_}
+use Prim.Native.Nat.{ℕ, _+_, _-_, _*_, _≤_, _<_}
 use mathlib.Core.Path.{_≡_, refl, sym, ap, _∙_}
-use mathlib.Core.List.{List, [], _∷_, _++_}
+use mathlib.Core.List.{List, _++_}
 use native.Mathlib.Nat.{mul-assoc}
 use native.Mathlib.Omega.{arith}
 use lib.ListN.{length, take, drop, replicate, length-append}
 use lib.Seq.{length-take-le, drop-at}
-use Rattle.links.specs.Lists.{at, All, foldl}
-use Rattle.links.specs.Parts.{Kept, filledPart}
+use Rattle.links.specs.Lists.{at, foldl}
+use Rattle.links.specs.Parts.{filledPart}
 use Rattle.links.specs.Loads.{Balance, balance}
 use Rattle.links.specs.Graph.{vertexCount, cutEntries, volume}
 use Rattle.links.specs.Options.{addedMoves, measuredStats}
-use Rattle.links.specs.declared.options.AbtmMultilevelOptions.{AbtmMultilevelOptions}
 use Rattle.links.specs.declared.options.AbtmMultilevelStats.{AbtmMultilevelStats}
-use Rattle.links.proofs.RowLaws.{all-place}
+use Rattle.links.proofs.RowLaws.{all-place, by-place}
 use Rattle.links.proofs.PartLaws.{length-part, kept-part-before, filled-is}
-use Rattle.stages.specs.Level.{rowsAt, weightsAt, ownersAt, Ready, balanceIn}
+use Rattle.stages.specs.Level.{rowsAt, weightsAt, ownersAt, balanceIn}
 use Rattle.stages.specs.Moves.{after}
 use Rattle.stages.specs.Swaps.{refineFinePairSwaps}
 use Rattle.stages.specs.SwapsCode.{RefinedBySwaps, swapsAt}
@@ -30,20 +29,16 @@ use Rattle.multilevel.specs.declared.measure.Measures.{Measures}
 use Rattle.multilevel.specs.Causes.{Call, Limited, needOf, earlyCause}
 use Rattle.multilevel.specs.Division.{Outcome, divided, swapPasses, finestWeights, division}
 use Rattle.multilevel.specs.Demand3.{siteRows, balanceOf, keptSteps}
-use Rattle.multilevel.specs.Room.{unitOf, levelAt, SiteFits, SiteLaid}
+use Rattle.multilevel.specs.Room.{SiteFits, SiteLaid}
 use Rattle.multilevel.specs.Measure.{Measurable, Measured}
-use Rattle.multilevel.specs.Driver.{solved, finestSwaps, statsSoFar, Told}
+use Rattle.multilevel.specs.Driver.{solved, finestSwaps, Told}
 use Rattle.multilevel.specs.Contract.{answerOf, ownersAfter, Partitioned}
-use Rattle.multilevel.specs.DriverCode.{Placed, LevelSolved, Finishing, LevelFinished, rulesWith, rulesFor, siteLevel, Divisible, SiteDivided}
+use Rattle.multilevel.specs.DriverCode.{Placed, LevelSolved, Finishing, LevelFinished, rulesFor, siteLevel, Divisible, SiteDivided}
 use Rattle.multilevel.proofs.DivisionLaws.{tested}
 use Rattle.multilevel.proofs.SolveLaws.{divided-of, told-ranked}
 use Rattle.multilevel.proofs.PlaceLaws.{placed-ready, placed-kept, placed-rows, placed-weights}
 use Rattle.multilevel.proofs.FinishLaws.{finish-refused, finish-divided, partitioned-with}
 use Rattle.multilevel.proofs.CallLaws.{withWork, exact-passes, same-run, same-balance, work-parts, site-fits, site-placed, site-told, weights-laid}
-
-by-place : (P : ℕ → Type 0) (xs : List ℕ) → ((i : ℕ) → i < length xs → P (at xs i)) → All P xs
-by-place P [] h = tt
-by-place P (x ∷ xs) h = (h 0 (omega arith), by-place P xs (λ i k. h (suc i) (omega arith)))
 
 -- ---- swaps and measures
 

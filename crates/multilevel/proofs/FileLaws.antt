@@ -1,13 +1,13 @@
 -- Laws of the link file's tests, each as the code meets it. Assumes nothing.
-use Prim.Native.Nat.{ℕ, zero, suc, _+_, _-_, _*_, _≤_, _<_}
-use mathlib.Core.Path.{_≡_, refl, sym, ap, _∙_}
-use mathlib.Core.Bool.{Bool, true, false, not, _&&_, _||_, cond}
-use mathlib.Core.List.{List, [], _∷_, _++_, map}
+use Prim.Native.Nat.{ℕ, _+_, _-_, _*_, _≤_, _<_}
+use mathlib.Core.Path.{_≡_, refl, sym, _∙_}
+use mathlib.Core.Bool.{Bool, true, false, _&&_, _||_, cond}
+use mathlib.Core.List.{List}
 use native.Mathlib.Omega.{arith}
 use lib.ListN.{length}
 use lib.Dec.{ltb, eqb}
 use borrow.Author.Tests.{ltb-false, eqb-true, lt-ltb, le-ltb, eq-eqb, ne-eqb}
-use Rattle.links.specs.Lists.{at, all, range}
+use Rattle.links.specs.Lists.{at}
 use Rattle.links.proofs.ListLaws.{split, and-l, and-r, or-l, or-r}
 use Rattle.multilevel.specs.File.{number, lowEnd, highEnd, linkBefore, goodLink, goodLinks, vertexCountOf, linkCountOf, overProgramLimits, fileCause, Sized}
 

@@ -1,14 +1,11 @@
 -- Laws of the reader's answers. Assumes nothing.
 use Prim.Native.Nat.{ℕ, _+_, _*_, _≤_, _<_}
-use mathlib.Core.Path.{_≡_, refl, sym, ap, _∙_}
-use mathlib.Core.Bool.{Bool, true, false, _||_, cond}
+use mathlib.Core.Path.{_≡_, refl, sym, _∙_}
 use mathlib.Core.List.{List}
 use native.Mathlib.Omega.{arith}
 use lib.ListN.{length}
-use lib.Dec.{ltb, eqb}
 use borrow.Author.Tests.{lt-ltb, le-ltb, eq-eqb, ne-eqb}
 use Rattle.multilevel.specs.File.{vertexCountOf, linkCountOf, sizesOf, fileCause, readerCause, FileRead, RowsWritten}
-use Rattle.multilevel.specs.declared.file.Read.{Read}
 use Rattle.multilevel.specs.declared.file.Read.the-variants.{Site, Refused}
 use Rattle.multilevel.proofs.FileLaws.{accepted}
 use Rattle.multilevel.proofs.FileRowLaws.{file-lists}

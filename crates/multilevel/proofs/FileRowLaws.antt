@@ -3,17 +3,16 @@
 use Prim.Native.Nat.{ℕ, zero, suc, _+_, _-_, _*_, _≤_, _<_}
 use mathlib.Core.Path.{_≡_, refl, sym, ap, _∙_}
 use mathlib.Core.Logic.{_⊎_, inl, inr, ⊎-elim}
-use mathlib.Core.Bool.{Bool, true, false, not, _&&_, _||_, cond, false≢true}
+use mathlib.Core.Bool.{Bool, true, false, _&&_, _||_, cond}
 use mathlib.Core.List.{List, [], _∷_, _++_, map, append-nil}
 use native.Mathlib.Omega.{arith}
 use native.Mathlib.Nat.{zero-add}
-use native.Mathlib.Numerals.{add-one}
 use lib.ListN.{length, length-append, length-map}
 use lib.Dec.{ltb, eqb}
-use borrow.Author.Tests.{lt-ltb, le-ltb, eq-eqb, ne-eqb, ltb-true, ltb-false, eqb-true, eqb-false}
-use Rattle.links.specs.Lists.{at, All, filter, any, all, range, elem, concatMap}
-use Rattle.links.specs.Graph.{row, strictlyRising, rowsOf, offsetsFrom, packed, Sound, SoundLists}
-use Rattle.links.proofs.ListLaws.{split, any-ext, eqb-sym, and-l, and-r, or-l, or-r, iff-eq, all-of, all-to, all-in, all-append, all-filter, all-range, elem-filter, elem-range, elem-concat, length-range, total, total-ext, total-add, total-zero, total-point}
+use borrow.Author.Tests.{eq-eqb, ne-eqb, ltb-true, eqb-true, eqb-false}
+use Rattle.links.specs.Lists.{at, All, any, range, elem, concatMap}
+use Rattle.links.specs.Graph.{row, strictlyRising, rowsOf, packed, Sound, SoundLists}
+use Rattle.links.proofs.ListLaws.{split, any-ext, eqb-sym, and-l, and-r, all-of, all-to, all-in, all-append, all-filter, all-range, elem-filter, elem-range, elem-concat, length-range, total, total-ext, total-add, total-zero, total-point, and-true}
 use Rattle.links.proofs.RangeLaws.{filter-ext, range-snoc, concat-append, filter-rises, rises-snoc, rising-filter}
 use Rattle.links.proofs.RowLaws.{getD-map-range}
 use Rattle.links.proofs.PackLaws.{sound-packed, rows-packed}
@@ -206,10 +205,6 @@ module _ (b : List ℕ) where
     elem-row : (v u : ℕ) → u < vertexCountOf b → elem u (fileRow b v) ≡ linkedIn b v u
     unfolding fileRow
     elem-row v u h = elem-filter u (linkedIn b v) (range 0 (vertexCountOf b)) ∙ rw (elem-range u 0 (vertexCountOf b) (omega arith) (omega arith)) (and-true (linkedIn b v u))
-      where
-        and-true : (x : Bool) → (x && true) ≡ x
-        and-true true = refl
-        and-true false = refl
 
     linked-sym : (u v : ℕ) → linkedIn b v u ≡ linkedIn b u v
     unfolding linkedIn

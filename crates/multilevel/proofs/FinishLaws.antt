@@ -1,20 +1,17 @@
 -- Laws of a division's end: what its finest level told, its swaps and its measures give the outcome; and what is lent at exit. Assumes nothing.
-use Prim.Native.Nat.{ℕ, zero, suc, _+_, _*_, _≤_, _<_}
+use Prim.Native.Nat.{ℕ, _+_, _≤_}
 use mathlib.Core.Path.{_≡_, refl, sym, ap, _∙_}
-use mathlib.Core.Bool.{Bool, true, false, cond}
-use mathlib.Core.List.{List, [], _∷_, _++_}
+use mathlib.Core.Bool.{false, cond}
+use mathlib.Core.List.{List, _++_}
 use native.Mathlib.Omega.{arith}
 use lib.ListN.{length, drop, replicate}
 use lib.Dec.{eqb}
 use borrow.Author.Tests.{eq-eqb, ne-eqb}
-use Rattle.links.specs.Lists.{foldl, sum}
-use Rattle.links.specs.Loads.{Balance, balance}
+use Rattle.links.specs.Lists.{foldl}
 use Rattle.links.specs.Graph.{cutEntries, volume}
-use Rattle.links.specs.Options.{stopSize, addedMoves, measuredStats}
+use Rattle.links.specs.Options.{addedMoves, measuredStats}
 use Rattle.links.specs.declared.options.AbtmMultilevelStats.{AbtmMultilevelStats}
-use Rattle.stages.specs.Coarsen.{Coarse}
 use Rattle.stages.specs.Moves.{after}
-use Rattle.multilevel.specs.declared.driver.Answer.{Answer}
 use Rattle.multilevel.specs.declared.driver.Answer.the-variants.{Divided, Refused}
 use Rattle.multilevel.specs.Causes.{Call, needOf, earlyCause}
 use Rattle.multilevel.specs.Division.{Outcome, refused, divided, Trace, solve, statsOf, swapPasses, finestWeights, abtmMultilevelPartition, division}

@@ -1,11 +1,11 @@
 -- Laws of growth in the driver: what the stage told is the division's growth, and moves follow. Assumes nothing.
-use Prim.Native.Nat.{ℕ, zero, suc, _+_, _*_, _≤_, _<_}
+use Prim.Native.Nat.{ℕ, _+_, _*_, _≤_, _<_}
 use mathlib.Core.Path.{_≡_, refl, sym, ap, _∙_}
-use mathlib.Core.Bool.{Bool, true, false, cond}
-use mathlib.Core.List.{List, []}
+use mathlib.Core.Bool.{false}
+use mathlib.Core.List.{List}
 use native.Mathlib.Omega.{arith}
 use lib.ListN.{length}
-use lib.Dec.{eqb, ltb}
+use lib.Dec.{eqb}
 use borrow.Author.Tests.{eqb-true, eqb-false}
 use Rattle.links.specs.Lists.{at, All, unassigned, any}
 use Rattle.links.specs.Parts.{Kept}
@@ -29,9 +29,9 @@ use Rattle.multilevel.specs.declared.driver.Answer.{Answer}
 use Rattle.multilevel.specs.declared.driver.Answer.the-variants.{Divided, Refused}
 use Rattle.multilevel.specs.declared.driver.Rules.{Rules}
 use Rattle.multilevel.specs.Division.{grow}
-use Rattle.multilevel.specs.Driver.{movesFrom, movedFrom, answerFor, Told}
+use Rattle.multilevel.specs.Driver.{movesFrom, movedFrom, answerFor}
 use Rattle.multilevel.specs.DriverCode.{Placed, Refining, LevelRefined, LevelGrown}
-use Rattle.multilevel.proofs.SolveLaws.{Grew, grew, grow-refusal, grownFrom, coarsest-grown, coarsest-check, coarsest-moved}
+use Rattle.multilevel.proofs.SolveLaws.{Grew, grew, grow-refusal, coarsest-grown, coarsest-check, coarsest-moved}
 use Rattle.multilevel.proofs.PlaceLaws.{placed-ready, placed-rows, placed-weights, placed-kept, kept-all}
 
 module _ (w : List ℕ) (l : HierarchyLevel) (q : Rules) (p : Placed w l q 0) where

@@ -1,13 +1,10 @@
 -- Laws of the site's own lists in the work slice: what copying them leaves, a level that the stages can work on. Assumes nothing.
-use Prim.Native.Nat.{ℕ, zero, suc, _+_, _-_, _≤_}
-use mathlib.Core.Path.{_≡_, refl, ap, _∙_}
+use Prim.Native.Nat.{ℕ, _+_, _-_, _≤_}
+use mathlib.Core.Path.{_≡_, _∙_}
 use mathlib.Core.List.{List}
 use native.Mathlib.Omega.{arith}
-use lib.ListN.{length, replicate}
-use Rattle.links.specs.Lists.{sum}
+use lib.ListN.{length}
 use Rattle.links.specs.Parts.{filledPart, copiedPart, Kept}
-use Rattle.links.specs.Graph.{SoundLists}
-use Rattle.stages.specs.Level.{Laid, Ready}
 use Rattle.stages.specs.declared.level.HierarchyLevel.{HierarchyLevel}
 use Rattle.links.proofs.PartLaws.{kept-part-before, kept-trans, kept-wide, filled-kept, filled-part, copied-kept, copied-part}
 use Rattle.multilevel.specs.Room.{SiteFits, SiteLaid}
@@ -44,29 +41,4 @@ site-laid w w₁ w₂ w₃ l offsets neighbors s e₁ e₂ e₃ =
           kept-trans o (g + n) w₃ w₂ w (kept-wide g (g + n) o (g + n) w₃ w₂ (omega (arith, d .offsets-in, d .neighbors-in)) (omega arith) k₃)
           (kept-trans o (g + n) w₂ w₁ w (kept-wide b (b + l .entries) o (g + n) w₂ w₁ (omega (arith, d .offsets-in)) (omega (arith, d .neighbors-in)) k₂)
           (kept-wide o (o + (n + 1)) o (g + n) w₁ w (omega arith) (omega (arith, d .offsets-in, d .neighbors-in)) k₁));
-    }
-
--- as many ones as vertices
-sum-ones : (n : ℕ) → sum (replicate n 1) ≡ n
-sum-ones zero = refl
-sum-ones (suc n) = omega (arith, sum-ones n)
-
--- the stages can work on the site
-pub site-ready
-    : (w w′ : List ℕ) (l : HierarchyLevel) (end : ℕ) (offsets neighbors : List ℕ)
-    → SiteLaid w w′ l offsets neighbors
-    → Laid l end
-    → end ≤ length w
-    → SoundLists offsets neighbors
-    → l .vertices ≤ 16384
-    → l .entries ≤ 131072
-    → Ready w′ l end
-site-ready w w′ l end offsets neighbors s d h lists few short =
-    record {
-      laid = d;
-      inside = omega (arith, s .frame .same-length);
-      lists = rw (s .offsets-laid, s .neighbors-laid) lists;
-      few = few;
-      short = short;
-      light = omega (arith, ap sum (s .weights-laid) ∙ sum-ones (l .vertices));
     }

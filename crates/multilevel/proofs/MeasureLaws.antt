@@ -12,15 +12,16 @@ use borrow.Author.Tests.{eq-eqb, ne-eqb, eqb-true, eqb-false, not-true, not-fals
 use Rattle.links.specs.Lists.{at, any, range, sum, elem}
 use Rattle.links.specs.Parts.{part, Kept}
 use Rattle.links.specs.Graph.{row, rowsOf, neighborsOf, vertices, cutEntries, foreignNeighbors, volume, Sound}
-use Rattle.links.proofs.ListLaws.{split, eqb-sym, and-l, and-r, and-i, or-true, or-false, iff-eq, tally, count, count-cons, count-length, count-drop, all-in, all-range, length-range, any-of, to-any, elem-range, elem-map, elem-take, none-filter, total, total-ext, total-add, total-zero, total-point}
+use Rattle.links.proofs.ListLaws.{split, eqb-sym, and-l, and-r, and-i, or-true, or-false, iff-eq, tally, count, count-length, count-drop, all-in, all-range, length-range, any-of, to-any, elem-range, elem-map, elem-take, none-filter, total, total-ext, total-add, total-point, and-false, and-true, count-range, total-swap}
 use Rattle.links.proofs.RangeLaws.{filter-ext}
 use Rattle.links.proofs.PartLaws.{length-part, getD-part, kept-refl, kept-trans, kept-set}
 use Rattle.links.proofs.RowLaws.{all-place, length-rows, row-query, length-row, offsets-fit}
 use Rattle.stages.specs.Level.{offsetsAt, neighborsAt, rowsAt, ownersAt, Ready}
 use Rattle.stages.specs.declared.level.HierarchyLevel.{HierarchyLevel}
-use Rattle.multilevel.proofs.RoomLaws.{same-level, ready-kept, level-count, level-entries, level-owners, owner-lies, offset-in, offset-rises, row-lies, row-under, at-map}
+use Rattle.multilevel.proofs.RoomLaws.{same-level, owner-lies, offset-in, offset-rises, row-lies, at-map}
 use Rattle.multilevel.specs.declared.measure.Measures.{Measures}
 use Rattle.multilevel.specs.Measure.{Below, foreignIn, Owned, otherRanks, ranksMet, Marked, unmarked, Met, Legible, rowOwners, RowMet, Measurable, VertexMet, VolumeMet, Measured}
+use Rattle.stages.proofs.LevelLaws.{length-neighbors, length-owners, count-vertices, all-vertices, ready-kept, neighbors-below}
 
 -- ---- sums over a range
 
@@ -28,17 +29,6 @@ sum-total : (f : ℕ → ℕ) (i n : ℕ) → sum (map f (range i n)) ≡ total 
 unfolding total
 sum-total f i zero = refl
 sum-total f i (suc n) = omega (arith, sum-total f (suc i) n)
-
-count-total : (p : ℕ → Bool) (i n : ℕ) → count p (range i n) ≡ total i n (λ x. tally (p x))
-unfolding total
-count-total p i zero = refl
-count-total p i (suc n) = omega (arith, count-cons p i (range (suc i) n), count-total p (suc i) n)
-
--- sums in either order
-total-swap : (i m j n : ℕ) (f : ℕ → ℕ → ℕ) → total i m (λ x. total j n (λ y. f x y)) ≡ total j n (λ y. total i m (λ x. f x y))
-unfolding total
-total-swap i zero j n f = sym (total-zero j n (λ y. 0) (λ y h k. refl))
-total-swap i (suc m) j n f = omega (arith, total-swap (suc i) m j n f, total-add j n (f i) (λ y. total (suc i) m (λ x. f x y)))
 
 -- what is left of a sum, as a loop meets it
 pub total-left : (f : ℕ → ℕ) (v n : ℕ) → v < n → total v (n - v) f ≡ f v + total (v + 1) (n - (v + 1)) f
@@ -145,13 +135,13 @@ module _ (rows : List (List ℕ)) (s : Sound rows) (owners : List ℕ) where
       let foreign : ℕ → ℕ → Bool = λ r u. not (eqb (at owners u) r) && any (λ v. eqb (at owners v) r && elem u (row rows v)) (vertices rows) in
       let met : ℕ → ℕ → Bool = λ u r. not (eqb (at owners u) r) && elem r (map (at owners) (row rows u)) in
       sum-total (λ r. length (foreignNeighbors rows owners r)) 0 k
-      ∙ total-ext 0 k (λ r. length (foreignNeighbors rows owners r)) (λ r. total 0 n (λ u. tally (foreign r u))) (λ r a b. count-total (foreign r) 0 n)
+      ∙ total-ext 0 k (λ r. length (foreignNeighbors rows owners r)) (λ r. total 0 n (λ u. tally (foreign r u))) (λ r a b. count-range (foreign r) 0 n)
       ∙ total-swap 0 k 0 n (λ r u. tally (foreign r u))
       ∙ total-ext 0 n (λ u. total 0 k (λ r. tally (foreign r u))) (λ u. length (ranksMet rows owners k u))
       (λ u a b.
       total-ext 0 k (λ r. tally (foreign r u)) (λ r. tally (met u r))
       (λ r c d. ap (λ (t : Bool). tally (not (eqb (at owners u) r) && t)) (stands-met u r (omega arith)))
-      ∙ sym (count-total (met u) 0 k))
+      ∙ sym (count-range (met u) 0 k))
 
 -- ---- one vertex more of a row
 
@@ -171,8 +161,8 @@ count-one p q i n b h k before after other =
     (λ e. rw (e, other r e) (omega arith)) in
     omega (
       arith,
-      count-total q i n,
-      count-total p i n,
+      count-range q i n,
+      count-range p i n,
       total-ext i n (λ r. tally (q r)) (λ r. tally (p r) + cond (eqb r b) 1 0) (λ r a c. one r),
       total-add i n (λ r. tally (p r)) (λ r. cond (eqb r b) 1 0),
       total-point i n b (λ r. 1) h k,
@@ -184,14 +174,6 @@ pub record Meeting (w₀ : List ℕ) (own seen ranks a e home mark : ℕ) (w : L
   pub marks : (r : ℕ) → r < ranks → eqb (at w (seen + r)) mark ≡ (not (eqb home r) && elem r (take j (rowOwners w₀ own a e)))
   pub low : Marked w seen ranks mark
   pub counted : x ≡ length (otherRanks ranks home (take j (rowOwners w₀ own a e)))
-
-and-false : (b : Bool) → (b && false) ≡ false
-and-false true = refl
-and-false false = refl
-
-and-true : (b : Bool) → (b && true) ≡ b
-and-true true = refl
-and-true false = refl
 
 -- no more ranks are met than there are
 pub met-few : (ranks home : ℕ) (bs : List ℕ) → length (otherRanks ranks home bs) ≤ ranks
@@ -370,9 +352,9 @@ pub level-owned : (w : List ℕ) (l : HierarchyLevel) (end : ℕ) → Ready w l 
 level-owned w l end r =
     record {
       lists = r .lists;
-      sized = level-owners w l end r ∙ sym (level-count w l end r);
-      few = rw (level-owners w l end r) (r .few);
-      short = rw (level-entries w l end r) (r .short);
+      sized = length-owners r ∙ sym (count-vertices r);
+      few = rw (length-owners r) (r .few);
+      short = rw (length-neighbors r) (r .short);
     }
 
 -- where the row of v starts, and where it ends
@@ -391,7 +373,7 @@ module _ (w : List ℕ) (l : HierarchyLevel) (seen ranks : ℕ) (g : Measurable 
       let z : from + (i - from) ≡ i = omega arith in
       let e : at (row (rowsAt w l) v) (i - from) ≡ at w i =
       ap (λ (y : List ℕ). at y (i - from)) (sym (row-lies w l seen r v h)) ∙ getD-part w from to (i - from) (omega arith) ∙ ap (at w) z in
-      rw e at (all-place (λ u. u < l .vertices) (row (rowsAt w l) v) (i - from) (row-under w l seen r v h) (rw sized (omega arith)))
+      rw e at (all-place (λ u. u < l .vertices) (row (rowsAt w l) v) (i - from) (neighbors-below r v h) (rw sized (omega arith)))
 
   pub vertex-legible : Marked w seen ranks v → Legible w (l .owners) seen ranks (rowFrom w l v) (rowFrom w l (v + 1)) (v + 1)
   vertex-legible marks =
@@ -404,7 +386,7 @@ module _ (w : List ℕ) (l : HierarchyLevel) (seen ranks : ℕ) (g : Measurable 
         owners-under = λ i a b. omega (arith, entry-under i a b, d .owners-in);
         owners-ranks = λ i a b.
             rw (owner-lies w l seen r (at w i) (entry-under i a b))
-            (all-place (λ u. u < ranks) (ownersAt w l) (at w i) (g .owned) (rw (level-owners w l seen r) (entry-under i a b)));
+            (all-place (λ u. u < ranks) (ownersAt w l) (at w i) (g .owned) (rw (length-owners r) (entry-under i a b)));
         unmarked-yet = λ q k. omega (arith, marks q k);
       }
 
@@ -418,7 +400,7 @@ module _ (w : List ℕ) (l : HierarchyLevel) (seen ranks : ℕ) (g : Measurable 
       let us = row (rowsAt w l) v in
       let same : rowOwners w (l .owners) (rowFrom w l v) (rowFrom w l (v + 1)) ≡ map (at owners) us =
       ap (map (λ u. at w (l .owners + u))) (row-lies w l seen r v h)
-      ∙ map-under (λ u. at w (l .owners + u)) (at owners) (l .vertices) us (row-under w l seen r v h) (owner-lies w l seen r) in
+      ∙ map-under (λ u. at w (l .owners + u)) (at owners) (l .vertices) us (neighbors-below r v h) (owner-lies w l seen r) in
       record {
         counted = t .counted ∙ rw (same, owner-lies w l seen r v h);
         marks = t .marks;
@@ -436,7 +418,7 @@ pub measurable-kept
 measurable-kept w w₀ l seen ranks k g =
     let s = same-level w w₀ seen (seen + ranks) k l seen (omega arith) (g .ready .laid) in
     record {
-      ready = ready-kept w w₀ seen (seen + ranks) k l seen (omega arith) (g .ready);
+      ready = ready-kept (g .ready) k (omega (arith, g .ready .laid));
       owned = rw (s .owners-same) (g .owned);
       few-ranks = g .few-ranks;
       inside = omega (arith, k .same-length, g .inside);
@@ -454,7 +436,7 @@ pub record Summing (w₀ : List ℕ) (l : HierarchyLevel) (seen ranks : ℕ) (w 
 module _ (w₀ : List ℕ) (l : HierarchyLevel) (seen ranks : ℕ) (g : Measurable w₀ l seen ranks) where
   pub summing-none : Marked w₀ seen ranks 0 → Summing w₀ l seen ranks w₀ 0 0
   summing-none marks =
-      let n : length (rowsAt w₀ l) ≡ l .vertices = length-rows (offsetsAt w₀ l) (neighborsAt w₀ l) ∙ level-count w₀ l seen (g .ready) in
+      let n : length (rowsAt w₀ l) ≡ l .vertices = all-vertices (g .ready) in
       let z : l .vertices - 0 ≡ l .vertices = omega arith in
       record {
         frame = kept-refl seen (seen + ranks) w₀;

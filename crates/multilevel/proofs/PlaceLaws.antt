@@ -1,34 +1,29 @@
 -- Laws of a level in its room: what is known of it further up, after a stage, and of its moves. Assumes nothing.
-use Prim.Native.Nat.{ℕ, zero, suc, _+_, _*_, _≤_, _<_}
-use mathlib.Core.Path.{_≡_, refl, sym, ap, _∙_}
-use mathlib.Core.Bool.{Bool, true, false, cond}
-use mathlib.Core.List.{List, []}
+use Prim.Native.Nat.{ℕ, _+_, _*_, _≤_}
+use mathlib.Core.Path.{_≡_, sym, ap, _∙_}
+use mathlib.Core.List.{List}
 use native.Mathlib.Nat.{add-mul}
 use native.Mathlib.Omega.{arith}
 use lib.ListN.{length}
 use lib.Dec.{eqb}
-use borrow.Author.Tests.{eq-eqb, ne-eqb}
-use Rattle.links.specs.Lists.{at, All, sum}
+use borrow.Author.Tests.{eq-eqb}
 use Rattle.links.specs.Parts.{Kept}
 use Rattle.links.specs.Owners.{fromOwners}
 use Rattle.links.specs.Options.{addedMoves}
 use Rattle.links.specs.declared.options.AbtmMultilevelStats.{AbtmMultilevelStats}
 use Rattle.links.proofs.ListLaws.{split}
 use Rattle.links.proofs.PartLaws.{length-part, kept-wide}
-use Rattle.stages.specs.Level.{rowsAt, weightsAt, ownersAt, Laid, Ready, balanceIn}
-use Rattle.stages.specs.MovesCode.{Ranked, Refinable, RefinedByCut}
+use Rattle.stages.specs.Level.{rowsAt, weightsAt, ownersAt, Ready, balanceIn}
+use Rattle.stages.specs.MovesCode.{Refinable, RefinedByCut}
 use Rattle.stages.specs.declared.level.HierarchyLevel.{HierarchyLevel}
-use Rattle.stages.specs.declared.moves.Refined.{Refined}
 use Rattle.stages.specs.declared.moves.Refined.the-variants as refined
-use Rattle.stages.proofs.LevelLaws.{all-vertices, rows-kept, weights-kept, ready-kept, length-neighbors}
+use Rattle.stages.proofs.LevelLaws.{all-vertices, rows-kept, weights-kept, ready-kept, length-neighbors, ready-by}
 use Rattle.stages.proofs.StepLaws.{moves-few}
 use Rattle.stages.proofs.CutLaws.{cut-entries, list-entries}
-use Rattle.multilevel.specs.declared.driver.Answer.{Answer}
 use Rattle.multilevel.specs.declared.driver.Answer.the-variants.{Divided, Refused}
 use Rattle.multilevel.specs.declared.driver.Rules.{Rules}
-use Rattle.multilevel.specs.Driver.{movesFrom, movedFrom, answerFor}
+use Rattle.multilevel.specs.Driver.{movesFrom, movedFrom}
 use Rattle.multilevel.specs.DriverCode.{Placed, Refining, LevelRefined}
-use Rattle.multilevel.proofs.RoomLaws.{ready-wide}
 
 -- the room of one level and of `left` more
 pub rooms : (left unit : ℕ) → (left + 1) * unit ≡ left * unit + unit
@@ -39,7 +34,7 @@ module _ (w : List ℕ) (l : HierarchyLevel) (q : Rules) (left : ℕ) (p : Place
   placed-below = omega (arith, p .above, rooms left (q .unit))
 
   pub placed-ready : Ready w l (q .scratch)
-  placed-ready = ready-wide w l (l .offsets + q .unit) (q .scratch) placed-below (omega (arith, p .room)) (p .ready)
+  placed-ready = ready-by (q .scratch) (p .ready) placed-below (omega (arith, p .room))
 
   pub placed-last : Placed w l q 0
   placed-last =

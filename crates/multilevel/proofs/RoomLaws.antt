@@ -9,62 +9,21 @@ use borrow.Author.Tests.{eqb-true, eqb-false}
 use lib.Dec.{eqb}
 use lib.ListN.{length, set, length-map}
 use lib.Seq.{ext-getD, getD-set-same, getD-set-other}
-use Rattle.links.specs.Lists.{at, All}
+use Rattle.links.specs.Lists.{at}
 use Rattle.links.specs.Parts.{part, Kept}
-use Rattle.links.specs.Graph.{row, vertexCount}
+use Rattle.links.specs.Graph.{row}
 use Rattle.stages.specs.Level.{offsetsAt, neighborsAt, rowsAt, weightsAt, groupAt, ownersAt, Laid, Ready}
 use Rattle.stages.specs.declared.level.HierarchyLevel.{HierarchyLevel}
 use Rattle.links.proofs.ListLaws.{split}
-use Rattle.links.proofs.RowLaws.{all-place, length-rows, row-is, offsets-fit}
+use Rattle.links.proofs.RowLaws.{all-place, row-is, offsets-fit}
 use Rattle.links.proofs.PartLaws.{length-part, getD-part, part-part, kept-refl, kept-set, kept-part-before}
-use Rattle.multilevel.specs.Room.{unitOf, levelAt, movedUp, sizedTo, Stacked, TakenOver}
+use Rattle.multilevel.specs.Room.{unitOf, levelAt, Stacked, TakenOver}
+use Rattle.stages.proofs.LevelLaws.{count-vertices, length-neighbors}
 
 -- ---- parts in their order
 
 pub laid-at : (n m base : ℕ) → Laid (levelAt n m base) (base + unitOf n m)
 laid-at n m base = record { offsets-in = omega arith; neighbors-in = omega arith; weights-in = omega arith; map-in = omega arith; owners-in = omega arith }
-
-pub laid-up : (l : HierarchyLevel) (end unit : ℕ) → Laid l end → Laid (movedUp l unit) (end + unit)
-laid-up l end unit d =
-    record {
-      offsets-in = omega (arith, d .offsets-in);
-      neighbors-in = omega (arith, d .neighbors-in);
-      weights-in = omega (arith, d .weights-in);
-      map-in = omega (arith, d .map-in);
-      owners-in = omega (arith, d .owners-in);
-    }
-
-pub laid-sized
-    : (l : HierarchyLevel) (end vertices entries : ℕ) → Laid l end → vertices ≤ l .vertices → entries ≤ l .entries → Laid (sizedTo l vertices entries) end
-laid-sized l end vertices entries d h k =
-    record {
-      offsets-in = omega (arith, d .offsets-in);
-      neighbors-in = omega (arith, d .neighbors-in);
-      weights-in = omega (arith, d .weights-in);
-      map-in = omega (arith, d .map-in);
-      owners-in = omega (arith, d .owners-in);
-    }
-
--- an end further on, and the nearest
-pub laid-wide : (l : HierarchyLevel) (end beyond : ℕ) → end ≤ beyond → Laid l end → Laid l beyond
-laid-wide l end beyond h d =
-    record {
-      offsets-in = d .offsets-in;
-      neighbors-in = d .neighbors-in;
-      weights-in = d .weights-in;
-      map-in = d .map-in;
-      owners-in = omega (arith, d .owners-in);
-    }
-
-pub laid-tight : (l : HierarchyLevel) (end : ℕ) → Laid l end → Laid l (l .owners + l .vertices)
-laid-tight l end d =
-    record {
-      offsets-in = d .offsets-in;
-      neighbors-in = d .neighbors-in;
-      weights-in = d .weights-in;
-      map-in = d .map-in;
-      owners-in = omega arith;
-    }
 
 -- ---- a level below what is written
 
@@ -87,47 +46,9 @@ module _ (w w₀ : List ℕ) (a e : ℕ) (k : Kept a e w w₀) (l : HierarchyLev
         owners-same = below (l .owners) (l .owners + l .vertices) (omega (arith, d .owners-in));
       }
 
-  pub ready-kept : Ready w₀ l end → Ready w l end
-  ready-kept r =
-      let s = same-level (r .laid) in
-      record {
-        laid = r .laid;
-        inside = omega (arith, r .inside, k .same-length);
-        lists = rw (s .offsets-same, s .neighbors-same) (r .lists);
-        few = r .few;
-        short = r .short;
-        light = rw (s .weights-same) (r .light);
-      }
-
--- ready for work further up
-pub ready-wide : (w : List ℕ) (l : HierarchyLevel) (end beyond : ℕ) → end ≤ beyond → beyond ≤ length w → Ready w l end → Ready w l beyond
-ready-wide w l end beyond h k r =
-    record {
-      laid = laid-wide l end beyond h (r .laid);
-      inside = k;
-      lists = r .lists;
-      few = r .few;
-      short = r .short;
-      light = r .light;
-    }
-
 -- ---- what is read of a level that is ready
 
 module _ (w : List ℕ) (l : HierarchyLevel) (end : ℕ) (r : Ready w l end) where
-  pub level-count : vertexCount (offsetsAt w l) ≡ l .vertices
-  level-count =
-      let d = r .laid in
-      let z = length-part w (l .offsets) (l .offsets + (l .vertices + 1)) (omega arith) (omega (arith, d .offsets-in, d .neighbors-in, d .weights-in, d .map-in, d .owners-in, r .inside)) in
-      omega arith
-
-  pub level-entries : length (neighborsAt w l) ≡ l .entries
-  level-entries =
-      let d = r .laid in
-      length-part w (l .neighbors) (l .neighbors + l .entries) (omega arith) (omega (arith, d .neighbors-in, d .weights-in, d .map-in, d .owners-in, r .inside)) ∙ omega arith
-
-  pub level-owners : length (ownersAt w l) ≡ l .vertices
-  level-owners = length-part w (l .owners) (l .owners + l .vertices) (omega arith) (omega (arith, r .laid .owners-in, r .inside)) ∙ omega arith
-
   -- the offset of v, and the owner
   pub offset-lies : (v : ℕ) → v ≤ l .vertices → at w (l .offsets + v) ≡ at (offsetsAt w l) v
   offset-lies v h = sym (getD-part w (l .offsets) (l .offsets + (l .vertices + 1)) v (omega arith))
@@ -137,10 +58,10 @@ module _ (w : List ℕ) (l : HierarchyLevel) (end : ℕ) (r : Ready w l end) whe
 
   pub offset-in : (v : ℕ) → v ≤ l .vertices → at w (l .offsets + v) ≤ l .entries
   offset-in v h =
-      omega (arith, offset-lies v h, offsets-fit (offsetsAt w l) (neighborsAt w l) (r .lists) v (rw level-count h), level-entries)
+      omega (arith, offset-lies v h, offsets-fit (offsetsAt w l) (neighborsAt w l) (r .lists) v (rw (count-vertices r) h), length-neighbors r)
 
   pub offset-rises : (v : ℕ) → v < l .vertices → at w (l .offsets + v) ≤ at w (l .offsets + (v + 1))
-  offset-rises v h = rw (offset-lies v (omega arith), offset-lies (v + 1) (omega arith)) (r .lists .rises v (rw level-count h))
+  offset-rises v h = rw (offset-lies v (omega arith), offset-lies (v + 1) (omega arith)) (r .lists .rises v (rw (count-vertices r) h))
 
   -- the row of v, as it lies in the work slice
   pub row-lies
@@ -151,16 +72,10 @@ module _ (w : List ℕ) (l : HierarchyLevel) (end : ℕ) (r : Ready w l end) whe
       let b = l .neighbors in
       let o = offsetsAt w l in
       let fits : at o (v + 1) ≤ b + l .entries - b =
-      omega (arith, offsets-fit o (neighborsAt w l) (r .lists) (v + 1) (rw level-count (omega arith)), level-entries) in
+      omega (arith, offsets-fit o (neighborsAt w l) (r .lists) (v + 1) (rw (count-vertices r) (omega arith)), length-neighbors r) in
       rw (offset-lies v (omega arith), offset-lies (v + 1) (omega arith))
       (sym (part-part w b (b + l .entries) (at o v) (at o (v + 1)) fits)
-      ∙ sym (row-is o (neighborsAt w l) (r .lists) v (rw level-count h)))
-
-  -- and its vertices
-  pub row-under : (v : ℕ) → v < l .vertices → All (λ u. u < l .vertices) (row (rowsAt w l) v)
-  row-under v h =
-      let n : length (rowsAt w l) ≡ l .vertices = length-rows (offsetsAt w l) (neighborsAt w l) ∙ level-count in
-      rw n at (r .lists .sound .below v (rw n h))
+      ∙ sym (row-is o (neighborsAt w l) (r .lists) v (rw (count-vertices r) h)))
 
 -- ---- taking over
 

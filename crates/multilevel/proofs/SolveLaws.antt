@@ -1,14 +1,14 @@
 -- Laws of what a level tells, as the driver comes to it: refused so far, after growth and moves, after a take-over and moves. Assumes nothing.
 use Prim.Native.Nat.{ℕ, zero, suc, _+_, _*_, _≤_, _<_}
-use mathlib.Core.Path.{_≡_, refl, sym, ap, _∙_}
-use mathlib.Core.Bool.{Bool, true, false, cond}
+use mathlib.Core.Path.{_≡_, sym, ap, _∙_}
+use mathlib.Core.Bool.{false, cond}
 use mathlib.Core.List.{List, [], _∷_, map}
 use native.Mathlib.Nat.{zero-add}
 use native.Mathlib.Omega.{arith}
 use lib.ListN.{length}
 use lib.Dec.{ltb, eqb}
 use borrow.Author.Tests.{eq-eqb, ne-eqb, eqb-true, eqb-false}
-use Rattle.links.specs.Lists.{at, unassigned, any, sum, All}
+use Rattle.links.specs.Lists.{at, unassigned, any, All}
 use Rattle.links.specs.Loads.{Balance}
 use Rattle.links.specs.Owners.{fromOwners}
 use Rattle.links.specs.Options.{zeroStats, addedPairs, addedMoves, grownStats}
@@ -18,10 +18,9 @@ use Rattle.stages.specs.Coarsen.{Coarse}
 use Rattle.stages.specs.Seeds.{farthestSeeds}
 use Rattle.stages.specs.Growth.{Growth, weightedMultisource, grown, restartCount}
 use Rattle.stages.proofs.RankLaws.{checked-ranked}
-use Rattle.multilevel.specs.declared.driver.Answer.{Answer}
 use Rattle.multilevel.specs.declared.driver.Answer.the-variants.{Divided, Refused}
 use Rattle.multilevel.specs.Division.{Trace, refine, grow, takeOver}
-use Rattle.multilevel.specs.Driver.{solved, movesFrom, movedFrom, stepCount, statsSoFar, answerFor, Small, Told}
+use Rattle.multilevel.specs.Driver.{solved, movesFrom, movedFrom, stepCount, statsSoFar, answerFor, Told}
 use Rattle.multilevel.proofs.DriverLaws.{refine-refusal, refine-growth, refine-owners, refine-count, onward, solved-coarsest, solved-finer, onward-refused, onward-moves, stats-coarsest, stats-finer, count-none}
 
 -- ---- growth

@@ -1,6 +1,6 @@
 -- Demand 3: one claim about a whole division, "from first seed to last swap or to refusal 8 or 9". Each field stands under its sentence; the theorem
 -- that every division has it is proofs/Demand3Laws.antt. Assumes nothing.
-use Prim.Native.Nat.{ℕ, suc, _+_, _*_, _/_, _≤_, _<_}
+use Prim.Native.Nat.{ℕ, _+_, _*_, _/_, _≤_, _<_}
 use mathlib.Core.Path.{_≡_}
 use mathlib.Core.Logic.{_↔_, _⊎_}
 use mathlib.Core.Bool.{true}
@@ -13,7 +13,7 @@ use Rattle.links.specs.Options.{stopSize}
 use Rattle.links.specs.declared.options.AbtmMultilevelStats.{AbtmMultilevelStats}
 use Rattle.stages.specs.Coarsen.{Coarse}
 use Rattle.stages.specs.Seeds.{farthestSeeds}
-use Rattle.stages.specs.Growth.{Turn, Choice, passes, Growth, weightedMultisource, grown}
+use Rattle.stages.specs.Growth.{Turn, passes, Growth, weightedMultisource, grown}
 use Rattle.stages.specs.Moves.{Step, move, after, gain}
 use Rattle.multilevel.specs.Causes.{Call}
 use Rattle.multilevel.specs.Division.{Run, Level, refused, divided, noGrowth, coarsenings, finestWeights, stepsOf}

@@ -1,5 +1,5 @@
 -- The division in the work slice: what the driver's functions take as given, and what they leave. Assumes nothing.
-use Prim.Native.Nat.{ℕ, _+_, _*_, _≤_, _<_}
+use Prim.Native.Nat.{ℕ, _+_, _*_, _≤_}
 use mathlib.Core.Path.{_≡_}
 use mathlib.Core.List.{List, []}
 use lib.ListN.{length}
@@ -12,7 +12,6 @@ use Rattle.links.specs.Options.{stopSize, addedMoves, measuredStats}
 use Rattle.links.specs.declared.options.AbtmMultilevelOptions.{AbtmMultilevelOptions}
 use Rattle.links.specs.declared.options.AbtmMultilevelStats.{AbtmMultilevelStats}
 use Rattle.stages.specs.Level.{rowsAt, weightsAt, ownersAt, Ready, balanceIn}
-use Rattle.stages.specs.Coarsen.{Coarse}
 use Rattle.stages.specs.Moves.{after}
 use Rattle.stages.specs.MovesCode.{Ranked}
 use Rattle.stages.specs.SwapsCode.{swapsAt}

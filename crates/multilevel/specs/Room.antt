@@ -38,19 +38,6 @@ movedUp l unit =
       owners = l .owners + unit;
     }
 
--- a level in the same place, of other sizes
-abbrev pub sizedTo : HierarchyLevel → ℕ → ℕ → HierarchyLevel
-sizedTo l vertices entries =
-    record {
-      vertices = vertices;
-      entries = entries;
-      offsets = l .offsets;
-      neighbors = l .neighbors;
-      weights = l .weights;
-      «fine_to_coarse» = l .«fine_to_coarse»;
-      owners = l .owners;
-    }
-
 -- ---- the site's own lists
 
 -- they fit the level that they are laid into

@@ -1,11 +1,10 @@
 // Rule 9: the link file, its check and its reader.
 ghost use mathlib.Core.Path.{_≡_};
-ghost use mathlib.Core.Bool.{Bool, true, false, _||_};
-ghost use lib.Dec.{eqb};
-ghost use Prim.Native.Nat.{ℕ, _+_, _-_, _*_, _≤_, _<_};
+ghost use mathlib.Core.Bool.{true, false};
+ghost use Prim.Native.Nat.{_+_, _-_, _*_, _≤_, _<_};
 ghost use lib.ListN.{length};
 ghost use Rattle.links.specs.Lists.{at};
-ghost use Rattle.multilevel.specs.File.{number, sizesOf, vertexCountOf, linkCountOf, lowEnd, highEnd, overProgramLimits, linkBefore, goodLink, goodLinks, fileCause, readerCause, fileRow, otherEnd, FileRead, Sized, Written, RowsWritten};
+ghost use Rattle.multilevel.specs.File.{number, sizesOf, vertexCountOf, lowEnd, highEnd, overProgramLimits, linkBefore, goodLink, goodLinks, fileCause, fileRow, otherEnd, FileRead, Sized, Written, RowsWritten};
 use links::AbtmMultilevelOptions;
 use links::index;
 use links::wide;

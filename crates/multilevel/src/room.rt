@@ -2,7 +2,8 @@
 ghost use mathlib.Core.Path.{_≡_};
 ghost use Prim.Native.Nat.{_+_, _<_, _^_};
 ghost use Rattle.stages.specs.Level.{Laid};
-ghost use Rattle.multilevel.specs.Room.{levelAt, movedUp, sizedTo};
+ghost use Rattle.stages.specs.CoarsenCode.{resized};
+ghost use Rattle.multilevel.specs.Room.{levelAt, movedUp};
 use stages::HierarchyLevel;
 
 // A level of n vertices and m entries at base: its parts one after the other.
@@ -42,7 +43,7 @@ pub fn moved_up(l: HierarchyLevel, unit: usize) -> HierarchyLevel
 
 // A level in the same place, of so many vertices and entries.
 pub fn sized(l: HierarchyLevel, vertices: usize, entries: usize) -> HierarchyLevel
-    ensures { λ r. ⌜ r ≡ sizedTo l vertices entries ⌝ }
+    ensures { λ r. ⌜ r ≡ resized l vertices entries ⌝ }
 {
     HierarchyLevel {
         vertices,

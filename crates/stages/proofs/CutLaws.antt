@@ -12,7 +12,7 @@ use borrow.Author.Tests.{eq-eqb, ne-eqb, eqb-true, eqb-false, lt-ltb, le-ltb, lt
 use Rattle.links.specs.Lists.{at, filter, sum, elem, All}
 use Rattle.links.specs.Graph.{row, vertices, degree, vertexCount, rowsOf, Sound, SoundLists, linksIn, linksTo, links, isCut, cutLinks}
 use Rattle.stages.specs.Moves.{Step, move, swap, after, linked, gain}
-use Rattle.links.proofs.ListLaws.{split, eqb-sym, cond-zero, tally, count, count-cons, count-is, count-length, all-kept, to-all, all-map, all-concat, total, total-ext, total-add, total-zero, total-point, count-concat}
+use Rattle.links.proofs.ListLaws.{split, eqb-sym, cond-zero, tally, count, count-cons, count-is, count-length, all-kept, to-all, all-map, all-concat, total, total-ext, total-add, total-zero, total-point, count-concat, or-false}
 use Rattle.links.proofs.SoundLaws.{occurs}
 use Rattle.links.proofs.RowLaws.{length-rows, length-row}
 
@@ -25,10 +25,6 @@ ends owners v s l = (eqb (l .0) v && eqb (at owners (l .1)) s) || (eqb (l .1) v 
 tally-not : (b : Bool) → tally (not b) + tally b ≡ 1
 tally-not true = refl
 tally-not false = refl
-
-or-false : (b : Bool) → b || false ≡ b
-or-false true = refl
-or-false false = refl
 
 module _ (owners : List ℕ) (v r : ℕ) (h : v < length owners) where
   -- one link, by whether its first and its second end are v

@@ -13,7 +13,7 @@ use lib.Dec.{leb, eqb}
 use borrow.Author.Tests.{eq-eqb, ne-eqb, eqb-true, eqb-false, leb-true, leb-false, le-leb}
 use Rattle.links.specs.Lists.{at, unassigned, filter}
 use Rattle.links.specs.Graph.{load}
-use Rattle.links.proofs.ListLaws.{split, and-l, and-r, and-i}
+use Rattle.links.proofs.ListLaws.{split, and-l, and-r, and-i, filter-append}
 use Rattle.stages.specs.Growth.{pop, unowned}
 use Rattle.stages.specs.FrontierCode.{opens}
 
@@ -26,10 +26,6 @@ rest [] = []
 rest (x ∷ xs) = xs
 
 module _ (p : ℕ → Bool) where
-  pub filter-append : (xs ys : List ℕ) → filter p (xs ++ ys) ≡ filter p xs ++ filter p ys
-  filter-append [] ys = refl
-  filter-append (x ∷ xs) ys = split (p x) (λ e. simp (e, filter-append xs ys)) (λ e. simp (e, filter-append xs ys))
-
   -- a test that asks more sees only what the other one let through
   pub filter-sub : (q : ℕ → Bool) → ((x : ℕ) → p x ≡ true → q x ≡ true) → (xs : List ℕ) → filter p (filter q xs) ≡ filter p xs
   filter-sub q h [] = refl

@@ -9,31 +9,18 @@ use native.Mathlib.Omega.{arith}
 use lib.ListN.{length, set, replicate, length-append, length-map, length-replicate, length-set}
 use lib.Seq.{getD-set-other, getD-set-same}
 use lib.Dec.{leb, ltb, eqb}
-use borrow.Author.Tests.{eq-eqb, ne-eqb, eqb-true, eqb-false, lt-ltb, ltb-true, ltb-false, leb-true, leb-false}
-use Rattle.links.specs.Lists.{at, unassigned, filter, all, foldl, range, sum, elem, concatMap, All}
+use borrow.Author.Tests.{eq-eqb, ne-eqb, eqb-true, eqb-false, ltb-true, ltb-false, leb-true, leb-false}
+use Rattle.links.specs.Lists.{at, unassigned, filter, foldl, range, sum, elem, concatMap, All}
 use Rattle.links.specs.Graph.{row, vertices, degree, strictlyRising, Sound, load}
 use Rattle.stages.specs.Coarsen.{falling, highestDegree, ofDegree, byDegree, closer, partner, Pairing, grouped, match, unmatched, pairing, coarseRow, coarsenOnce}
-use Rattle.links.proofs.ListLaws.{split, eqb-sym, and-l, and-r, and-i, iff-eq, tally, count, count-cons, count-length, all-filter, all-to, to-all, all-concat, all-range, all-in, length-range, elem-filter, elem-range, any-of, to-any, any-none, elem-map, elem-concat, best-all, best-kept, total, total-ext, total-add, total-zero, total-point}
+use Rattle.links.proofs.ListLaws.{split, eqb-sym, and-l, and-r, and-i, iff-eq, tally, count-length, all-filter, all-to, to-all, all-concat, all-range, all-in, length-range, elem-filter, elem-range, any-of, to-any, any-none, elem-map, elem-concat, best-all, best-kept, total, total-add, total-zero, total-point, count-range}
 use Rattle.links.proofs.RowLaws.{getD-map-range}
-use Rattle.stages.proofs.CutLaws.{total-le, total-degrees}
+use Rattle.links.proofs.RangeLaws.{filter-rises}
+use Rattle.stages.proofs.CutLaws.{total-le}
 use Rattle.stages.proofs.GrowthLaws.{unowned-in, vacant, vacant-set}
 use Rattle.stages.proofs.LoadLaws.{loadBy, byIndex, load-by, by-ext, by-all, by-none, by-set, index-snoc, index-ext, index-all, index-load}
 
 -- ---- the coarse rows are sound, whatever the grouping
-
-all-test : (p : ℕ → Bool) (xs : List ℕ) → All (λ x. p x ≡ true) xs → all p xs ≡ true
-all-test p [] a = refl
-all-test p (x ∷ xs) a = rw (a .0) (all-test p xs (a .1))
-
--- what is kept of a range rises
-pub filter-rises : (p : ℕ → Bool) (i n : ℕ) → strictlyRising (filter p (range i n)) ≡ true
-filter-rises p i zero = refl
-filter-rises p i (suc n) =
-    let above : ℕ → Type 0 = λ x. ltb i x ≡ true in
-    let rest = range (suc i) n in
-    let l : all (ltb i) (filter p rest) ≡ true =
-    all-test (ltb i) (filter p rest) (all-filter above p rest (all-range above (suc i) n (λ x h k. lt-ltb i x (omega arith)))) in
-    split (p i) (λ q. rw (q, l) (filter-rises p (suc i) n)) (λ q. rw q (filter-rises p (suc i) n))
 
 module _ (rows : List (List ℕ)) (group : List ℕ) where
   -- g's vertices, and the groups of their neighbors
@@ -127,31 +114,6 @@ module _ (rows : List (List ℕ)) (group : List ℕ) where
 
 -- ---- the coarse rows have no more entries, whatever the grouping
 
-count-range : (p : ℕ → Bool) (i n : ℕ) → count p (range i n) ≡ total i n (λ h. tally (p h))
-unfolding total
-count-range p i zero = refl
-count-range p i (suc n) = omega (arith, count-cons p i (range (suc i) n), count-range p (suc i) n)
-
-sum-range : (f : ℕ → List ℕ) (i n : ℕ) → sum (map length (map f (range i n))) ≡ total i n (λ g. length (f g))
-unfolding total
-sum-range f i zero = refl
-sum-range f i (suc n) = omega (arith, sum-range f (suc i) n)
-
-length-concat
-    : (f : ℕ → List ℕ) (p : ℕ → Bool) (i n : ℕ) → length (concatMap f (filter p (range i n))) ≡ total i n (λ v. cond (p v) (length (f v)) 0)
-unfolding total
-length-concat f p i zero = refl
-length-concat f p i (suc n) =
-    let rest = filter p (range (suc i) n) in
-    let ih = length-concat f p (suc i) n in
-    split (p i) (λ q. rw q (omega (arith, length-append (f i) (concatMap f rest), ih))) (λ q. rw q (omega (arith, ih)))
-
--- sums in either order
-total-swap : (i m j n : ℕ) (f : ℕ → ℕ → ℕ) → total i m (λ g. total j n (λ v. f g v)) ≡ total j n (λ v. total i m (λ g. f g v))
-unfolding total
-total-swap i zero j n f = sym (total-zero j n (λ v. 0) (λ v h k. refl))
-total-swap i (suc m) j n f = omega (arith, total-swap (suc i) m j n f, total-add j n (f i) (λ v. total (suc i) m (λ g. f g v)))
-
 -- a number stands at most once in a range
 total-once : (x d i n : ℕ) → total i n (λ h. cond (eqb h x) d 0) ≤ d
 total-once x d i n = split (leb i x)
@@ -184,31 +146,6 @@ row-few m g xs =
     let test : ℕ → Bool = λ h. not (eqb h g) && elem h xs in
     let less : (h : ℕ) → tally (test h) ≤ tally (elem h xs) = λ h. split (not (eqb h g)) (λ p. rw p (omega arith)) (λ p. rw p (omega arith)) in
     omega (arith, count-range test 0 m, total-le 0 m (λ h. tally (test h)) (λ h. tally (elem h xs)) less, elems-few xs 0 m)
-
--- an entry of a coarse row comes from an entry of a fine row of its own
-pub rows-entries
-    : (rows : List (List ℕ)) (group : List ℕ) (m : ℕ) → sum (map length (map (coarseRow rows group m) (range 0 m))) ≤ sum (map length rows)
-unfolding coarseRow
-rows-entries rows group m =
-    let n = length rows in
-    let part : ℕ → ℕ → ℕ = λ g v. cond (eqb (at group v) g) (degree rows v) 0 in
-    let size : (g : ℕ) → length (touched rows group g) ≡ total 0 n (λ v. part g v) =
-    λ g. length-concat (λ v. map (at group) (row rows v)) (λ v. eqb (at group v) g) 0 n
-    ∙ total-ext 0 n _ (λ v. part g v) (λ v h k. ap (λ (d : ℕ). cond (eqb (at group v) g) d 0) (length-map (row rows v) (at group))) in
-    let one : (g : ℕ) → length (coarseRow rows group m g) ≤ total 0 n (λ v. part g v) =
-    λ g. omega (arith, row-few m g (touched rows group g), size g) in
-    let once : (v : ℕ) → total 0 m (λ g. part g v) ≤ degree rows v =
-    λ v.
-    let turned = total-ext 0 m (λ g. part g v) (λ g. cond (eqb g (at group v)) (degree rows v) 0) (λ g h k. rw (eqb-sym (at group v) g)) in
-    omega (arith, turned, total-once (at group v) (degree rows v) 0 m) in
-    omega (
-      arith,
-      sum-range (coarseRow rows group m) 0 m,
-      total-le 0 m (λ g. length (coarseRow rows group m g)) (λ g. total 0 n (λ v. part g v)) one,
-      total-swap 0 m 0 n part,
-      total-le 0 n (λ v. total 0 m (λ g. part g v)) (degree rows) once,
-      total-degrees rows,
-    )
 
 -- ---- the pairing
 
@@ -414,11 +351,6 @@ coarse-weighed rows ws =
     let m = length (pairing rows ws .weights) in
     sym (length-map (range 0 m) (coarseRow rows (pairing rows ws .group) m) ∙ length-range 0 m)
 
--- no more entries
-pub coarse-entries : (rows : List (List ℕ)) (ws : List ℕ) → sum (map length (coarsenOnce rows ws .rows)) ≤ sum (map length rows)
-unfolding coarsenOnce
-coarse-entries rows ws = rows-entries rows (pairing rows ws .group) (length (pairing rows ws .weights))
-
 module _ (rows : List (List ℕ)) (s : Sound rows) (ws : List ℕ) (small : length rows < unassigned) (weighed : length ws ≡ length rows) where
   -- before the first turn, and after the last
   pub unmatched-grouped : Grouped (length rows) ws (unmatched (length rows))
@@ -450,10 +382,6 @@ module _ (rows : List (List ℕ)) (s : Sound rows) (ws : List ℕ) (small : leng
   pub coarse-sized : length (coarsenOnce rows ws .group) ≡ length rows
   unfolding coarsenOnce
   coarse-sized = pairing-grouped .sized
-
-  pub coarse-few : length (coarsenOnce rows ws .weights) ≤ length rows
-  unfolding coarsenOnce
-  coarse-few = omega (arith, pairing-grouped .room)
 
   -- what the groups that pass weigh, whatever the test
   groups-weigh : (P : ℕ → Bool) → loadBy P ws (coarsenOnce rows ws .group) ≡ byIndex P 0 (coarsenOnce rows ws .weights)

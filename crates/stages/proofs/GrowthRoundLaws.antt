@@ -2,7 +2,7 @@
 use mathlib.Core.Path.{_≡_, refl, sym, ap, ap₂, _∙_, subst}
 use mathlib.Core.Bool.{Bool, true, false, not, cond, true≢false}
 use mathlib.Core.List.{List, [], _∷_, _++_, append-nil}
-use Prim.Native.Nat.{ℕ, zero, suc, _+_, _-_, _*_, _≤_, _<_}
+use Prim.Native.Nat.{ℕ, suc, _+_, _-_, _*_, _≤_, _<_}
 use native.Mathlib.Omega.{arith}
 use native.Mathlib.Numerals.{add-one}
 use lib.Dec.{eqb}
@@ -10,8 +10,8 @@ use lib.ListN.{length, drop}
 use lib.Seq.{drop-cons}
 use borrow.Author.Tests.{eqb-true, eqb-false}
 use Rattle.links.specs.Lists.{at, unassigned, filter, any, foldl, range}
-use Rattle.links.proofs.ListLaws.{split, count-append, any-counts}
-use Rattle.links.proofs.ListLaws.{none-counts as none-left}
+use Rattle.links.proofs.ListLaws.{split, count-append, any-counts, none-counts as none-left}
+use Rattle.links.proofs.RangeLaws.{range-snoc}
 use Rattle.stages.specs.Growth.{Growing, Turn, Round, Choice, passes, claims, restarts, isPass, isRestart, afterTurn, turn, round, rounds, restartCount}
 use Rattle.stages.specs.FrontierCode.{rowsIn, weightsIn, memoryIn, vacantIn, Outside, Stands, GrowthReady, kindOf}
 use Rattle.stages.specs.GrowthCode.{StandsIn, TurnMade, claimCount, vacancy, turnsOf, Rounded, nextRound, More, roundsOf, Leaves, grownAnswer, leftCause, GrownTo}
@@ -24,12 +24,6 @@ use Rattle.stages.proofs.GrowthSliceLaws.{rows-same, weights-same}
 
 abbrev isClaim : Turn → Bool
 isClaim t = not (isPass (t .choice))
-
-range-snoc : (i n : ℕ) → range i (suc n) ≡ range i n ++ ((i + n) ∷ [])
-range-snoc i zero = let e : i ≡ i + 0 = omega arith in ap (λ (x : ℕ). x ∷ []) e
-range-snoc i (suc n) =
-    let e : suc i + n ≡ i + suc n = omega arith in
-    ap (λ (l : List ℕ). i ∷ l) (range-snoc (suc i) n ∙ ap (λ (x : ℕ). range (suc i) n ++ (x ∷ [])) e)
 
 module _ (cap : ℕ) (rows : List (List ℕ)) (weights : List ℕ) where
   -- one rank more
@@ -48,8 +42,7 @@ module _ (cap : ℕ) (rows : List (List ℕ)) (weights : List ℕ) where
       → (round cap rows weights s (range 0 (i + 1)) .turns ≡ round cap rows weights s (range 0 i) .turns ++ (turn cap rows weights (round cap rows weights s (range 0 i) .state) i .turn ∷ []))
       × (round cap rows weights s (range 0 (i + 1)) .state ≡ turn cap rows weights (round cap rows weights s (range 0 i) .state) i .state)
   round-next s i =
-      let z : 0 + i ≡ i = omega arith in
-      let e : range 0 (i + 1) ≡ range 0 i ++ (i ∷ []) = ap (range 0) (add-one i) ∙ range-snoc 0 i ∙ ap (λ (x : ℕ). range 0 i ++ (x ∷ [])) z in
+      let e : range 0 (i + 1) ≡ range 0 i ++ (i ∷ []) = ap (range 0) (add-one i) ∙ range-snoc 0 i i (omega arith) in
       let r = round-snoc s (range 0 i) i in
       (ap (λ (l : List ℕ). round cap rows weights s l .turns) e ∙ r .0, ap (λ (l : List ℕ). round cap rows weights s l .state) e ∙ r .1)
 

@@ -5,11 +5,11 @@ use mathlib.Core.List.{List, [], _∷_, _++_, map}
 use Prim.Native.Nat.{ℕ, zero, suc, _+_, _-_, _≤_, _<_, _^_}
 use native.Mathlib.Omega.{arith}
 use lib.Dec.{eqb, leb}
-use lib.ListN.{length, getD, set, drop, replicate, length-replicate, getD-replicate, length-map, length-drop, drop-of-length-le}
+use lib.ListN.{length, getD, set, drop, replicate, getD-replicate, length-map, length-drop, drop-of-length-le}
 use lib.Seq.{getD-set-other, drop-cons, drop-nil, getD-drop}
 use borrow.Author.Tests.{eqb-true, eqb-false}
 use Rattle.links.specs.Lists.{at, unassigned, filter, foldl, sum}
-use Rattle.links.specs.Parts.{part, filledPart, Kept}
+use Rattle.links.specs.Parts.{filledPart, Kept}
 use Rattle.links.specs.Graph.{row, load}
 use Rattle.links.proofs.ListLaws.{split, and-l, count-length}
 use Rattle.links.proofs.PartLaws.{getD-part, kept-part-before, filled-kept, filled-at, filled-part}

@@ -12,11 +12,11 @@ use lib.Seq.{getD-set-same, getD-set-other}
 use borrow.Author.Tests.{eqb-true, eqb-false}
 use Rattle.links.specs.Lists.{at, unassigned, filter, best, range}
 use Rattle.links.specs.Graph.{row, load}
-use Rattle.links.proofs.ListLaws.{split, and-l}
+use Rattle.links.proofs.ListLaws.{split, and-l, filter-append}
 use Rattle.stages.specs.Growth.{Growing, Popped, pop, choice, passes, claims, restarts, turn, chosen, claimed, restart, unowned, fits}
 use Rattle.stages.specs.FrontierCode.{opens, higher, Memory, frontOf, Stands, kindOf}
 use Rattle.stages.proofs.GrowthLaws.{unowned-in}
-use Rattle.stages.proofs.FrontierLaws.{first, rest, filter-append, filter-sub, same-sub, pop-claim, pop-rest, opens-before, open-facts}
+use Rattle.stages.proofs.FrontierLaws.{first, rest, filter-sub, same-sub, pop-claim, pop-rest, opens-before, open-facts}
 
 -- open to rank r
 abbrev pub openTo : ℕ → List ℕ → List ℕ → ℕ → ℕ → Bool

@@ -1,15 +1,15 @@
 -- Every owner is a rank: what growth, a take-over, moves and the from_owners check leave. Assumes nothing.
 use Prim.Native.Nat.{ℕ, zero, suc, _+_, _-_, _≤_, _<_}
-use mathlib.Core.Path.{_≡_, refl, sym, ap, _∙_}
+use mathlib.Core.Path.{_≡_, refl, sym}
 use mathlib.Core.Logic.{_⊎_, inl, inr, ⊎-elim}
-use mathlib.Core.Bool.{Bool, true, false, not, _||_, cond, false≢true, true≢false}
-use mathlib.Core.List.{List, [], _∷_, _++_, map}
+use mathlib.Core.Bool.{false, not}
+use mathlib.Core.List.{List, [], _∷_, map}
 use native.Mathlib.Omega.{arith}
 use lib.ListN.{length, set, replicate}
 use lib.Dec.{leb, eqb}
-use borrow.Author.Tests.{eqb-false, leb-false, eq-eqb}
-use Rattle.links.specs.Lists.{at, unassigned, any, all, foldl, range, All}
-use Rattle.links.specs.Owners.{badRanks, tooMany, strayOwner, emptyRank, fromOwners}
+use borrow.Author.Tests.{eqb-false, leb-false}
+use Rattle.links.specs.Lists.{at, unassigned, any, foldl, range, All}
+use Rattle.links.specs.Owners.{badRanks, tooMany, strayOwner, fromOwners}
 use Rattle.links.proofs.ListLaws.{split, all-append, all-range, all-to, any-none}
 use Rattle.links.proofs.RowLaws.{all-place}
 use Rattle.stages.specs.Growth.{Growing, Turn, Choice, passes, claims, restarts, isPass, afterChoice, afterTurn, turn, round, rounds, seedOwners, seeded, weightedMultisource, grown}

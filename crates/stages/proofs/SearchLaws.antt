@@ -10,7 +10,7 @@ use lib.ListN.{length, getD}
 use borrow.Author.Tests.{eq-eqb, eqb-true, eqb-false, lt-ltb, le-ltb, ltb-true, ltb-false}
 use Rattle.links.specs.Lists.{at, unassigned, elem}
 use Rattle.links.specs.Graph.{row, degree}
-use Rattle.links.proofs.ListLaws.{split, elem-append}
+use Rattle.links.proofs.ListLaws.{split, elem-append, elem-this}
 use Rattle.stages.specs.Seeds.{Distance}
 use Rattle.stages.specs.SeedsCode.{passing, Near, Nearer, Search, Searchable, Searching, Scanning}
 use Rattle.stages.proofs.DistanceLaws.{passing-one, passing-zero, passing-room, below, mirror}
@@ -32,9 +32,6 @@ in-more v s xs = elem-append v xs (s ∷ [])
 
 in-old : (v s : ℕ) (xs : List ℕ) → elem v xs ≡ true → elem v (xs ++ (s ∷ [])) ≡ true
 in-old v s xs e = rw (in-more v s xs, e)
-
-in-new : (s : ℕ) (xs : List ℕ) → elem s (xs ++ (s ∷ [])) ≡ true
-in-new s xs = split (elem s xs) (λ p. rw (in-more s s xs, p)) (λ p. rw (in-more s s xs, p, eq-eqb s s refl))
 
 in-either : (v s : ℕ) (xs : List ℕ) → elem v (xs ++ (s ∷ [])) ≡ true → (elem v xs ≡ true) ⊎ (v ≡ s)
 in-either v s xs e = split (elem v xs)
@@ -64,7 +61,7 @@ module _ (g : Search) (good : Searchable g) where
           under = under-start;
           at-new = here;
           seeds-only = λ v h e. split (eqb v (g .new))
-              (λ p. rw (eqb-true v (g .new) p) (in-new (g .new) (g .seeds)))
+              (λ p. rw (eqb-true v (g .new) p) (elem-this (g .new) (g .seeds)))
               (λ p. in-old v (g .new) (g .seeds) (good .kept .seeds-only v h (omega (arith, other v h (eqb-false v (g .new) p)))));
           nearer = back-start;
           inside = λ i b. omega (arith, one i b, good .inside);

@@ -1,5 +1,5 @@
 -- The seeds, one after another. Assumes nothing.
-use Prim.Native.Nat.{ℕ, zero, suc, _+_, _-_, _*_, _≤_, _<_}
+use Prim.Native.Nat.{ℕ, suc, _+_, _-_, _*_, _≤_, _<_}
 use mathlib.Core.Path.{_≡_, refl, sym, ap, _∙_}
 use mathlib.Core.Bool.{Bool, true, false, cond, not, false≢true, true≢false}
 use mathlib.Core.List.{List, [], _∷_, _++_}
@@ -16,6 +16,7 @@ use Rattle.links.specs.Graph.{row, degree, vertices, vertexCount, Sound}
 use Rattle.links.proofs.ListLaws.{split, all-filter, all-range, filter-none, best-none, best-all, best-kept, not-of, iff-eq}
 use Rattle.links.proofs.PartLaws.{length-part, getD-part, part-set-end, kept-set, kept-trans, kept-wide, kept-part-after, filled-kept, filled-at}
 use Rattle.links.proofs.RowLaws.{length-row, row-at, offsets-fit}
+use Rattle.links.proofs.RangeLaws.{filter-ext}
 use Rattle.stages.specs.Level.{Ready, offsetsAt, neighborsAt, rowsAt}
 use Rattle.stages.specs.Seeds.{distances, nextSeed, farthestSeeds, farther}
 use Rattle.stages.specs.SeedsCode.{from, Search, Searchable, Lies, Lowerable, Lowered, ahead, unseeded, farthest, degreeAt, Choosing, Seedable, SeededTo, Seeded}
@@ -75,10 +76,6 @@ module _ (d deg : ℕ → ℕ) (n b : ℕ) (e : held b ≡ best (ahead d deg) (f
 
 -- ---- the code's choice is rule 4's
 
-filter-ext : (p q : ℕ → Bool) (i n : ℕ) → ((x : ℕ) → x < i + n → p x ≡ q x) → filter p (range i n) ≡ filter q (range i n)
-filter-ext p q i zero f = refl
-filter-ext p q i (suc n) f = rw (f i (omega arith), filter-ext p q (suc i) n (λ x h. f x (omega arith)))
-
 module _ (b c : ℕ → ℕ → Bool) (n : ℕ) (f : (u v : ℕ) → u < n → v < n → b u v ≡ c u v) where
   best-ext : (xs : List ℕ) → All (λ x. x < n) xs → (m : ℕ) → m < n → bestFrom b (some m) xs ≡ bestFrom c (some m) xs
   best-ext [] a m h = refl
@@ -112,7 +109,7 @@ module _ (rows : List (List ℕ)) (sound : Sound rows) (few : length rows < unas
       let better : ℕ → ℕ → Bool = λ u v. above (D u) (D v) (ltb (degree rows v) (degree rows u)) in
       let b : (u v : ℕ) → u < n → v < n → ahead d deg u v ≡ better u v = λ u v h k. rw (f u h, f v k, g u h, g v k) in
       let k : filter (unseeded d) (range 0 n) ≡ filter (λ v. not (elem v seeds)) (range 0 n) =
-      filter-ext (unseeded d) (λ v. not (elem v seeds)) 0 n (λ x h. rw (f x (omega arith), seed-test x (omega arith))) in
+      filter-ext (unseeded d) (λ v. not (elem v seeds)) 0 n (λ x k h. rw (f x (omega arith), seed-test x (omega arith))) in
       ap (λ (o : Option ℕ). Option·getD o 0)
       (best-same (ahead d deg) better n b (filter (unseeded d) (range 0 n)) (below-n (unseeded d) n) ∙ ap (best better) k)
 

@@ -15,7 +15,7 @@ use Rattle.links.specs.Lists.{at, All, filter, foldl, insert, sortBy, range, co
 use Rattle.links.specs.Parts.{part}
 use Rattle.links.specs.Loads.{Balance}
 use Rattle.links.specs.Graph.{row, vertices, linksIn, linksTo}
-use Rattle.links.proofs.ListLaws.{split, count-length, all-take, all-sort, all-map, all-filter, all-to, all-concat, all-range}
+use Rattle.links.proofs.ListLaws.{split, count-length, all-take, all-sort, all-map, all-filter, all-to, all-concat, all-range, filter-append}
 use Rattle.stages.specs.Moves.{Step, swap, after, linked, gain}
 use Rattle.stages.specs.Swaps.{Candidate, Proposal, ahead, sooner, propose, candidates, proposals, applies, swapPass}
 use Rattle.stages.specs.Slots.{candidate, proposal}
@@ -131,12 +131,6 @@ module _ (rows : List (List ℕ)) where
         (λ p. rw p (row-fold x (inserted sooner m s (propose rows x y)) ys))
         (λ p. rw p (row-fold x s ys))
 
-    filter-append : (xs ys : List Proposal) → filter gains (xs ++ ys) ≡ filter gains xs ++ filter gains ys
-    filter-append [] ys = refl
-    filter-append (x ∷ xs) ys = split (gains x)
-        (λ p. rw p (ap (λ (t : List Proposal). x ∷ t) (filter-append xs ys)))
-        (λ p. rw p (filter-append xs ys))
-
     -- a row of products for each candidate of the first list
     all-fold
         : (s : List Proposal) (xs ys : List Candidate)
@@ -144,7 +138,7 @@ module _ (rows : List (List ℕ)) where
     all-fold s [] ys = refl
     all-fold s (x ∷ xs) ys =
         let more = concatMap (λ x. map (propose rows x) ys) xs in
-        ap (foldl (inserted sooner m) s) (filter-append (map (propose rows x) ys) more)
+        ap (foldl (inserted sooner m) s) (filter-append gains (map (propose rows x) ys) more)
         ∙ foldl-append (inserted sooner m) (filter gains (map (propose rows x) ys)) (filter gains more) s
         ∙ ap (λ (t : List Proposal). foldl (inserted sooner m) t (filter gains more)) (row-fold x s ys)
         ∙ all-fold (foldl (proposed m rows x) s ys) xs ys
@@ -233,10 +227,6 @@ module _ (rows : List (List ℕ)) where
         xs (candidates-fair n owners a b))))
 
 -- ---- a pass, taken in parts
-
-pub concat-append : {A B : Type 0} (f : A → List B) (xs ys : List A) → concatMap f (xs ++ ys) ≡ concatMap f xs ++ concatMap f ys
-concat-append f [] ys = refl
-concat-append f (x ∷ xs) ys = rw (concat-append f xs ys) (sym (append-assoc (f x) (concatMap f xs) (concatMap f ys)))
 
 module _ (b : Balance) (rows : List (List ℕ)) (weights : List ℕ) where
   pub pass-append

@@ -10,6 +10,7 @@ use Rattle.links.specs.Lists.{at, All, foldl, range, concatMap}
 use Rattle.links.specs.Parts.{part, Kept}
 use Rattle.links.specs.Graph.{row}
 use Rattle.links.proofs.PartLaws.{getD-part, kept-refl, kept-trans, kept-wide}
+use Rattle.links.proofs.RangeLaws.{concat-append}
 use Rattle.stages.specs.Level.{offsetsAt, neighborsAt, rowsAt, weightsAt, ownersAt, Ready, balanceIn}
 use Rattle.stages.specs.Moves.{Step, after}
 use Rattle.stages.specs.Swaps.{Proposal, candidates, proposals, allProposals, refineFinePairSwaps}
@@ -22,7 +23,7 @@ use Rattle.stages.proofs.StepLaws.{swaps-few}
 use Rattle.stages.proofs.MovesLaws.{Toward, toward-start, passesLeft, repeat-turn, repeat-quiet, repeat-end}
 use Rattle.stages.proofs.LevelLaws.{length-neighbors, length-owners, all-vertices, rows-kept, weights-kept, owners-kept, beneath}
 use Rattle.stages.proofs.SlotLaws.{slots-empty}
-use Rattle.stages.proofs.SwapListLaws.{range-more, concat-append, proposals-are, proposals-none, proposals-none-back, candidates-fair, proposals-named}
+use Rattle.stages.proofs.SwapListLaws.{range-more, proposals-are, proposals-none, proposals-none-back, candidates-fair, proposals-named}
 use Rattle.stages.proofs.SwapsSliceLaws.{row-few, roomed}
 use Rattle.stages.proofs.SwapStepLaws.{taken-none, taken-then}
 use Rattle.stages.proofs.ListingLaws.{pair-below, list-kept, given-kept, owners-same, sorted-empty}

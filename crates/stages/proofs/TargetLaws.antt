@@ -3,7 +3,7 @@
 use Prim.Native.Nat.{ℕ, zero, suc, _+_, _-_, _<_}
 use mathlib.Core.Path.{_≡_, refl, sym, ap, _∙_, subst}
 use mathlib.Core.Logic.{_⊎_, inl, inr, ⊎-elim}
-use mathlib.Core.Bool.{Bool, true, false, not, _&&_, _||_, cond, true≢false, false≢true}
+use mathlib.Core.Bool.{Bool, true, false, _&&_, _||_, cond, true≢false, false≢true}
 use mathlib.Core.List.{List, [], _∷_, map}
 use mathlib.Core.Option.{Option, none, some}
 use native.Mathlib.Omega.{arith}
@@ -12,7 +12,7 @@ use borrow.Author.Tests.{eq-eqb, ne-eqb, eqb-true, eqb-false, ltb-true, ltb-fals
 use Rattle.links.specs.Lists.{at, All, above, filter, foldl, best, range, elem}
 use Rattle.links.specs.Loads.{Balance}
 use Rattle.links.specs.Graph.{row, linksTo, load}
-use Rattle.links.proofs.ListLaws.{split, and-l, and-r, and-i, all-in, all-map, any-of, to-any, elem-map}
+use Rattle.links.proofs.ListLaws.{split, and-l, and-r, all-in, all-map, any-of, to-any, elem-map}
 use Rattle.links.proofs.BestLaws.{met, step, left, one-more, all-met}
 use Rattle.stages.specs.declared.moves.Offer.{Offer}
 use Rattle.stages.specs.Moves.{move, gain, mayJoin, preferred, target}

@@ -1,5 +1,5 @@
 -- `bridge::bridge_from_owners` meets its contract: each case's number is the one that is told. Assumes nothing.
-use mathlib.Core.Path.{_≡_, ap, sym, _∙_}
+use mathlib.Core.Path.{ap, sym, _∙_}
 use borrow.Author.Needs.{needs}
 use Rattle.links.specs.Owners.{assignmentNumber}
 use Rattle.bridge.proofs.bridge_from_owners.Statement.{statement}

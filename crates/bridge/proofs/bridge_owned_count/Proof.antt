@@ -1,5 +1,5 @@
 -- `bridge::bridge_owned_count` meets its contract: each case's number and value are those that are told. Assumes nothing.
-use mathlib.Core.Path.{_≡_, ap, sym, _∙_}
+use mathlib.Core.Path.{ap, sym, _∙_}
 use borrow.Author.Needs.{needs}
 use Rattle.links.specs.Owners.{countNumber, countValue}
 use Rattle.bridge.proofs.bridge_owned_count.Statement.{statement}

@@ -1,5 +1,5 @@
 -- `bridge::bridge_owner_of` meets its contract: each case's number and value are those that are told. Assumes nothing.
-use mathlib.Core.Path.{_≡_, ap, sym, _∙_}
+use mathlib.Core.Path.{ap, sym, _∙_}
 use borrow.Author.Needs.{needs}
 use Rattle.links.specs.Owners.{ownerNumber, ownerValue}
 use Rattle.bridge.proofs.bridge_owner_of.Statement.{statement}

@@ -1,10 +1,11 @@
 use mathlib.Core.Bool.{true, false}
 use mathlib.Core.Path.{refl, sym, _∙_}
 use Rattle.bridge_stages.specs.Lent.{Lent, lent}
-use Rattle.bridge_stages.proofs.LentLaws.{cause-is, limited, lists-bad, lists-fine}
+use Rattle.bridge_stages.proofs.LentLaws.{cause-is, limited}
 use borrow.Author.Needs.{needs}
 use Rattle.bridge_stages.proofs.lent.lent_cause.Statement.{statement}
 use Rattle.bridge_stages.proofs.lent.lent_cause.Tie as tie
+use Rattle.links.proofs.ListTestLaws.{lists-bad, lists-fine}
 
 -- what the function was handed
 abbrev given : tie.Start → Lent

@@ -8,10 +8,11 @@ use lib.Dec.{ltb, eqb}
 use borrow.Author.Tests.{le-ltb, eq-eqb}
 use Rattle.links.specs.Lists.{at}
 use Rattle.links.specs.ListTest.{validRow}
-use Rattle.links.proofs.ListTestLaws.{validFrom, valid-start, valid-next, valid-low, valid-stray, valid-end, and-false}
+use Rattle.links.proofs.ListTestLaws.{validFrom, valid-start, valid-next, valid-low, valid-stray, valid-end}
 use borrow.Author.Needs.{needs}
 use Rattle.links.proofs.lists.valid_row.Statement.{statement}
 use Rattle.links.proofs.lists.valid_row.Tie as tie
+use Rattle.links.proofs.ListLaws.{and-false}
 
 abbrev Inv-loop : tie.InvT-loop
 Inv-loop row v n least₀ i₀ least i = (i ≤ length row) × (validFrom n v least (drop i row) ≡ validRow n v row)

@@ -1,10 +1,8 @@
 -- What comes back is as much of the part as there is, with src over it. Assumes nothing.
-use Prim.Native.Nat.{ℕ, min}
-use mathlib.Core.Path.{_≡_, sym, ap, _∙_}
-use mathlib.Core.List.{List, []}
+use Prim.Native.Nat.{ℕ}
+use mathlib.Core.Path.{ap, _∙_}
+use mathlib.Core.List.{List}
 use native.Mathlib.Omega.{arith}
-use lib.ListN.{length}
-use lib.Seq.{drop-nil}
 use Rattle.links.specs.Parts.{part, putBack, copied, copiedPart}
 use Rattle.links.proofs.PartLaws.{clip, clip-none, copied-none}
 use borrow.Author.Needs.{needs}

@@ -1,6 +1,6 @@
 -- What comes back is as much of the part as there is, filled. Assumes nothing.
-use Prim.Native.Nat.{ℕ, min}
-use mathlib.Core.Path.{refl, sym, ap, _∙_}
+use Prim.Native.Nat.{ℕ}
+use mathlib.Core.Path.{refl, ap, _∙_}
 use mathlib.Core.List.{List}
 use native.Mathlib.Omega.{arith}
 use lib.ListN.{length, replicate}

@@ -1,10 +1,11 @@
 use mathlib.Core.Bool.{true, false}
 use mathlib.Core.Path.{refl, sym, _∙_}
 use Rattle.multilevel.specs.Causes.{Call, callOf, tooShort}
-use Rattle.multilevel.proofs.CauseLaws.{limited, options-bad, options-fine, lists-bad, lists-fine, counts-as, limits-as, room-as, early-is}
+use Rattle.multilevel.proofs.CauseLaws.{limited, options-bad, options-fine, counts-as, limits-as, room-as, early-is}
 use borrow.Author.Needs.{needs}
 use Rattle.multilevel.proofs.causes.early_cause.Statement.{statement}
 use Rattle.multilevel.proofs.causes.early_cause.Tie as tie
+use Rattle.links.proofs.ListTestLaws.{lists-bad, lists-fine}
 
 -- what the function was handed
 abbrev call : tie.Start → Call
@@ -61,7 +62,7 @@ returns-4 c =
     (options-fine (c .before .before .before .before .before .before .before .before .before .before .before .before .args .options) (c .before .before .before .before .before .before .before .before .before .validate .result) (c .before .before .before .before .before .before .before .before .before .validate .ensures) (c .before .before .before .before .before .before .before .before .if1 .left))
     (counts-as (c .before .before .before .before .before .before .before .vertex-count .ensures) (c .before .before .before .before .before .before .index .ensures) (c .before .before .before .before .before .bad-counts .ensures) (c .before .before .before .before .if2 .left))
     (limits-as (c .before .before .before .before .before .before .before .vertex-count .ensures) (c .before .before .before .before .before .before .index .ensures) _ _ (c .before .before .before .over-limits .ensures) (c .before .before .if3 .left))
-    (lists-bad (c .before .lists-cause .result) (c .before .before .before .before .before .before .before .before .before .before .before .before .args .offsets .now) (c .before .before .before .before .before .before .before .before .before .before .before .before .args .neighbors .now) (c .before .lists-cause .ensures .cause) (c .if4 .taken))
+    (lists-bad (c .before .before .before .before .before .before .before .before .before .before .before .before .args .offsets .now) (c .before .before .before .before .before .before .before .before .before .before .before .before .args .neighbors .now) (c .before .lists-cause .result) (c .before .lists-cause .ensures .cause) (c .if4 .taken))
     refl
 
 too-short-requires : tie.Need-too-short-requires
@@ -74,7 +75,7 @@ returns-5 c =
     (options-fine (c .before .before .before .before .before .before .before .before .before .before .before .before .before .before .args .options) (c .before .before .before .before .before .before .before .before .before .before .before .validate .result) (c .before .before .before .before .before .before .before .before .before .before .before .validate .ensures) (c .before .before .before .before .before .before .before .before .before .before .if1 .left))
     (counts-as (c .before .before .before .before .before .before .before .before .before .vertex-count .ensures) (c .before .before .before .before .before .before .before .before .index .ensures) (c .before .before .before .before .before .before .before .bad-counts .ensures) (c .before .before .before .before .before .before .if2 .left))
     (limits-as (c .before .before .before .before .before .before .before .before .before .vertex-count .ensures) (c .before .before .before .before .before .before .before .before .index .ensures) _ _ (c .before .before .before .before .before .over-limits .ensures) (c .before .before .before .before .if3 .left))
-    (lists-fine (c .before .before .before .lists-cause .result) (c .before .before .before .before .before .before .before .before .before .before .before .before .before .before .args .offsets .now) (c .before .before .before .before .before .before .before .before .before .before .before .before .before .before .args .neighbors .now) (c .before .before .before .lists-cause .ensures .cause) (c .before .before .if4 .left))
+    (lists-fine (c .before .before .before .before .before .before .before .before .before .before .before .before .before .before .args .offsets .now) (c .before .before .before .before .before .before .before .before .before .before .before .before .before .before .args .neighbors .now) (c .before .before .before .lists-cause .result) (c .before .before .before .lists-cause .ensures .cause) (c .before .before .if4 .left))
     (room-as (c .before .before .before .before .before .before .before .before .before .vertex-count .ensures) (c .before .before .before .before .before .before .before .before .index .ensures) _ _ _ _ (c .before .too-short .ensures) (c .if5 .taken))
 
 returns-6 : tie.Need-returns-6
@@ -84,7 +85,7 @@ returns-6 c =
     (options-fine (c .before .before .before .before .before .before .before .before .before .before .before .before .before .before .args .options) (c .before .before .before .before .before .before .before .before .before .before .before .validate .result) (c .before .before .before .before .before .before .before .before .before .before .before .validate .ensures) (c .before .before .before .before .before .before .before .before .before .before .if1 .left))
     (counts-as (c .before .before .before .before .before .before .before .before .before .vertex-count .ensures) (c .before .before .before .before .before .before .before .before .index .ensures) (c .before .before .before .before .before .before .before .bad-counts .ensures) (c .before .before .before .before .before .before .if2 .left))
     (limits-as (c .before .before .before .before .before .before .before .before .before .vertex-count .ensures) (c .before .before .before .before .before .before .before .before .index .ensures) _ _ (c .before .before .before .before .before .over-limits .ensures) (c .before .before .before .before .if3 .left))
-    (lists-fine (c .before .before .before .lists-cause .result) (c .before .before .before .before .before .before .before .before .before .before .before .before .before .before .args .offsets .now) (c .before .before .before .before .before .before .before .before .before .before .before .before .before .before .args .neighbors .now) (c .before .before .before .lists-cause .ensures .cause) (c .before .before .if4 .left))
+    (lists-fine (c .before .before .before .before .before .before .before .before .before .before .before .before .before .before .args .offsets .now) (c .before .before .before .before .before .before .before .before .before .before .before .before .before .before .args .neighbors .now) (c .before .before .before .lists-cause .result) (c .before .before .before .lists-cause .ensures .cause) (c .before .before .if4 .left))
     (room-as (c .before .before .before .before .before .before .before .before .before .vertex-count .ensures) (c .before .before .before .before .before .before .before .before .index .ensures) _ _ _ _ (c .before .too-short .ensures) (c .if5 .left))
 
 pub early-cause-spec : {M : Type 1} → statement M

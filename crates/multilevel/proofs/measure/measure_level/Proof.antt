@@ -1,13 +1,13 @@
 use native.Mathlib.Omega.{arith}
 use Rattle.links.proofs.PartLaws.{filled-kept, filled-at}
-use Rattle.multilevel.proofs.RoomLaws.{ready-wide}
 use Rattle.multilevel.proofs.MeasureLaws.{measurable-kept, measured}
 use borrow.Author.Needs.{needs}
 use Rattle.multilevel.proofs.measure.measure_level.Statement.{statement}
 use Rattle.multilevel.proofs.measure.measure_level.Tie as tie
+use Rattle.stages.proofs.LevelLaws.{ready-by}
 
 cut-in-requires : tie.Need-cut-in-requires
-cut-in-requires c κs = ready-wide _ _ _ _ (c .before .before .pre .ready .inside) (omega arith) (c .before .before .pre .ready)
+cut-in-requires c κs = ready-by _ (c .before .before .pre .ready) (c .before .before .pre .ready .inside) (omega arith)
 
 add-fill-part : tie.Need-add-fill-part
 add-fill-part c = search needs

@@ -1,8 +1,7 @@
 -- The loop keeps what the rounds made, and that the definition's rounds from there are the rest. Assumes nothing.
 use native.Mathlib.Omega.{arith}
-use Prim.Native.Nat.{ℕ, _-_}
-use mathlib.Core.Path.{_≡_, refl, sym, _∙_}
-use lib.ListN.{length-replicate}
+use Prim.Native.Nat.{_-_}
+use mathlib.Core.Path.{_≡_, refl}
 use Rattle.stages.specs.FrontierCode.{memoryIn, vacantIn}
 use Rattle.stages.specs.GrowthCode.{Behind}
 use Rattle.stages.specs.declared.growth.Grown.the-variants as variant

@@ -1,6 +1,6 @@
 -- The search goes on from the cursor, and takes it along. Assumes nothing.
 use native.Mathlib.Omega.{arith}
-use mathlib.Core.Path.{_≡_, sym, ap, _∙_, subst}
+use mathlib.Core.Path.{subst}
 use Prim.Native.Nat.{ℕ}
 use Rattle.links.specs.Lists.{at}
 use Rattle.stages.specs.FrontierCode.{FirstOpen, orderIn}

@@ -1,8 +1,4 @@
 -- The two ways out are the two tests. Assumes nothing.
-use Prim.Native.Nat.{_+_}
-use mathlib.Core.Path.{ap}
-use mathlib.Core.Bool.{true, false}
-use lib.Dec.{leb}
 use borrow.Author.Needs.{needs}
 use borrow.Author.Tests.{eq-eqb, ne-eqb}
 use Rattle.stages.specs.MovesCode.{tempts}

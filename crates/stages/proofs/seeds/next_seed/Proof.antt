@@ -4,8 +4,7 @@ use native.Mathlib.Nat.{sub-zero}
 use mathlib.Core.Path.{_≡_, refl, sym, _∙_}
 use mathlib.Core.Logic.{_⊎_, inl}
 use Prim.Native.Nat.{ℕ, _-_, _<_, _≤_}
-use Rattle.links.specs.Lists.{unassigned, filter, range}
-use Rattle.links.specs.Lists.{best as best-of}
+use Rattle.links.specs.Lists.{unassigned, filter, range, best as best-of}
 use Rattle.links.specs.Best.{held}
 use Rattle.links.proofs.BestLaws.{left, one-more, all-met, held-step, step-in}
 use Rattle.stages.specs.SeedsCode.{from, ahead, unseeded, degreeAt}
