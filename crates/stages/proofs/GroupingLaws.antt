@@ -112,7 +112,7 @@ module _ (rows : List (List ℕ)) (group : List ℕ) where
                 (elem-row g h (omega (arith, size)) ∙ rw (eqb-sym h g, back g h) (sym (elem-row h g (omega (arith, size)))));
           }
 
--- ---- the coarse rows have no more entries, whatever the grouping
+-- ---- how long a coarse row is
 
 -- a number stands at most once in a range
 total-once : (x d i n : ℕ) → total i n (λ h. cond (eqb h x) d 0) ≤ d

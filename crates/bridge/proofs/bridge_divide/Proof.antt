@@ -1,3 +1,4 @@
+-- The answer is told in numbers. Assumes nothing.
 use Prim.Native.Nat.{ℕ}
 use mathlib.Core.Path.{_≡_, refl, ap, sym, _∙_}
 use mathlib.Core.List.{List}
@@ -62,7 +63,9 @@ same-length-2 : tie.Need-same-length-2
 same-length-2 c = search needs
 
 returns : tie.Need-returns
-returns c = as-numbers (c .before .before .before .before .before .before .before .before .abtm-multilevel-partition .ensures) (sym (ap answerNumber (c .before .before .s .given .1))) (c .numbers-of .ensures ∙ sym (ap (λ (a : Answer). statsNumbers (answerStats a)) (c .before .before .s .given .1)))
+returns c =
+    let c8 = c .before .before .before .before .before .before .before .before in
+    as-numbers (c8 .abtm-multilevel-partition .ensures) (sym (ap answerNumber (c .before .before .s .given .1))) (c .numbers-of .ensures ∙ sym (ap (λ (a : Answer). statsNumbers (answerStats a)) (c .before .before .s .given .1)))
 
 same-length-3 : tie.Need-same-length-3
 same-length-3 c = search needs
@@ -72,7 +75,9 @@ same-length-4 c = search needs
 
 returns-2 : tie.Need-returns-2
 unfolding zeroStats
-returns-2 c = as-numbers (c .before .before .before .before .before .before .before .before .abtm-multilevel-partition .ensures) (sym (ap answerNumber (c .before .before .number .given .1))) (sym (ap (λ (a : Answer). statsNumbers (answerStats a)) (c .before .before .number .given .1)))
+returns-2 c =
+    let c8 = c .before .before .before .before .before .before .before .before in
+    as-numbers (c8 .abtm-multilevel-partition .ensures) (sym (ap answerNumber (c .before .before .number .given .1))) (sym (ap (λ (a : Answer). statsNumbers (answerStats a)) (c .before .before .number .given .1)))
 
 pub bridge-divide-spec : {M : Type 1} → statement M
 bridge-divide-spec =

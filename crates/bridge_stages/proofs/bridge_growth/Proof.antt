@@ -1,3 +1,4 @@
+-- A level that was tested and laid is one that the stage takes; its answer is told in numbers. Assumes nothing.
 use Rattle.bridge_stages.specs.Lent.{Lent, lent}
 use Rattle.bridge_stages.proofs.StageLaws.{within, growth-refused, growable, grown-told}
 use borrow.Author.Needs.{needs}
@@ -15,7 +16,10 @@ same-length : tie.Need-same-length
 same-length c = search needs
 
 returns : tie.Need-returns
-returns c = growth-refused (given (c .before .before .before .before .before .before .before .before .before .before)) _ _ _ (c .before .before .before .enter .ensures) (c .if1 .taken) (c .before .before .before .before .before .before .before .before .before .before .args .cap)
+returns c =
+    let c3 = c .before .before .before in
+    let c10 = c3 .before .before .before .before .before .before .before in
+    growth-refused (given (c10)) _ _ _ (c3 .enter .ensures) (c .if1 .taken) (c10 .args .cap)
 
 place-of-requires : tie.Need-place-of-requires
 place-of-requires c κs = within (given (c .before .before .before .before .before .before .before .before .before .before)) _ _ _ (c .before .before .before .enter .ensures) (c .if1 .left)
@@ -24,7 +28,11 @@ index-requires : tie.Need-index-requires
 index-requires c κs = search needs
 
 weighted-multisource-partition-requires : tie.Need-weighted-multisource-partition-requires
-weighted-multisource-partition-requires c κs = growable (given (c .before .before .before .before .before .before .before .before .before .before .before .before .before)) _ _ _ (c .before .before .before .before .before .before .enter .ensures) (c .before .before .before .if1 .left) (c .before .before .place-of .result) (c .before .before .place-of .ensures) (c .index .result) (c .index .ensures)
+weighted-multisource-partition-requires c κs =
+    let c3 = c .before .before .before in
+    let c6 = c3 .before .before .before in
+    let c13 = c6 .before .before .before .before .before .before .before in
+    growable (given (c13)) _ _ _ (c6 .enter .ensures) (c3 .if1 .left) (c .before .before .place-of .result) (c .before .before .place-of .ensures) (c .index .result) (c .index .ensures)
 
 enum-known-n : tie.Need-enum-known-n
 enum-known-n c = search needs
@@ -36,13 +44,27 @@ same-length-2 : tie.Need-same-length-2
 same-length-2 c = search needs
 
 returns-2 : tie.Need-returns-2
-returns-2 c = grown-told (given (c .before .before .before .before .before .before .before .before .before .before .before .before .before .before .before .before .before .before .before)) _ _ _ (c .before .before .before .before .before .before .before .before .before .before .before .before .enter .ensures) (c .before .before .before .before .before .before .before .before .before .if1 .left) (c .before .before .before .before .before .before .before .before .place-of .result) (c .before .before .before .before .before .before .before .before .place-of .ensures) (c .before .before .before .before .before .before .index .result) (c .before .before .before .before .before .before .index .ensures) (c .before .before .before .before .before .before .before .before .before .before .before .before .before .before .before .before .before .before .before .args .cap) _ _ (rw (c .before .n .given .1) at (c .before .before .before .before .before .weighted-multisource-partition .ensures))
+returns-2 c =
+    let c5 = c .before .before .before .before .before in
+    let c6 = c5 .before in
+    let c8 = c6 .before .before in
+    let c9 = c8 .before in
+    let c12 = c9 .before .before .before in
+    let c19 = c12 .before .before .before .before .before .before .before in
+    grown-told (given (c19)) _ _ _ (c12 .enter .ensures) (c9 .if1 .left) (c8 .place-of .result) (c8 .place-of .ensures) (c6 .index .result) (c6 .index .ensures) (c19 .args .cap) _ _ (rw (c .before .n .given .1) at (c5 .weighted-multisource-partition .ensures))
 
 same-length-3 : tie.Need-same-length-3
 same-length-3 c = search needs
 
 returns-3 : tie.Need-returns-3
-returns-3 c = grown-told (given (c .before .before .before .before .before .before .before .before .before .before .before .before .before .before .before .before .before .before .before)) _ _ _ (c .before .before .before .before .before .before .before .before .before .before .before .before .enter .ensures) (c .before .before .before .before .before .before .before .before .before .if1 .left) (c .before .before .before .before .before .before .before .before .place-of .result) (c .before .before .before .before .before .before .before .before .place-of .ensures) (c .before .before .before .before .before .before .index .result) (c .before .before .before .before .before .before .index .ensures) (c .before .before .before .before .before .before .before .before .before .before .before .before .before .before .before .before .before .before .before .args .cap) _ _ (rw (c .before .number .given .1) at (c .before .before .before .before .before .weighted-multisource-partition .ensures))
+returns-3 c =
+    let c5 = c .before .before .before .before .before in
+    let c6 = c5 .before in
+    let c8 = c6 .before .before in
+    let c9 = c8 .before in
+    let c12 = c9 .before .before .before in
+    let c19 = c12 .before .before .before .before .before .before .before in
+    grown-told (given (c19)) _ _ _ (c12 .enter .ensures) (c9 .if1 .left) (c8 .place-of .result) (c8 .place-of .ensures) (c6 .index .result) (c6 .index .ensures) (c19 .args .cap) _ _ (rw (c .before .number .given .1) at (c5 .weighted-multisource-partition .ensures))
 
 pub bridge-growth-spec : {M : Type 1} → statement M
 bridge-growth-spec =

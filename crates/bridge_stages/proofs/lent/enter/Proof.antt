@@ -1,3 +1,4 @@
+-- What passed the tests fits, and is then a level that the stages take. Assumes nothing.
 use mathlib.Core.Path.{refl, sym, _∙_}
 use lib.ListN.{length}
 use Rattle.bridge_stages.specs.Lent.{Lent, lent}
@@ -17,16 +18,26 @@ returns : tie.Need-returns
 returns c = record { cause = c .before .lent-cause .ensures; refused = λ _. refl; laid = λ z. absurd (c .if1 .taken z) }
 
 place-of-requires : tie.Need-place-of-requires
-place-of-requires c κs = passed (given (c .before .before .before .before .before .before .before)) (length (c .before .before .before .before .before .before .before .args .work .now)) (sym (c .before .lent-cause .ensures) ∙ c .if1 .left) .limits
+place-of-requires c κs =
+    let c7 = c .before .before .before .before .before .before .before in
+    passed (given (c7)) (length (c7 .args .work .now)) (sym (c .before .lent-cause .ensures) ∙ c .if1 .left) .limits
 
 lay-level-requires : tie.Need-lay-level-requires
-lay-level-requires c κs = level-fits (given (c .before .before .before .before .before .before .before .before .before)) (c .before .before .before .before .before .before .before .before .before .args .work .now) (sym (c .before .before .before .lent-cause .ensures) ∙ c .before .before .if1 .left) (c .before .place-of .result) (c .before .place-of .ensures)
+lay-level-requires c κs =
+    let c3 = c .before .before .before in
+    let c9 = c3 .before .before .before .before .before .before in
+    level-fits (given (c9)) (c9 .args .work .now) (sym (c3 .lent-cause .ensures) ∙ c .before .before .if1 .left) (c .before .place-of .result) (c .before .place-of .ensures)
 
 same-length : tie.Need-same-length
 same-length c = search needs
 
 returns-2 : tie.Need-returns-2
-returns-2 c = record { cause = sym (c .before .before .before .before .before .if1 .left) ∙ c .before .before .before .before .before .before .lent-cause .ensures; refused = λ f. absurd (f refl); laid = λ _. level-in (given (c .before .before .before .before .before .before .before .before .before .before .before .before)) (c .before .before .before .before .before .before .before .before .before .before .before .before .args .work .now) (sym (c .before .before .before .before .before .before .lent-cause .ensures) ∙ c .before .before .before .before .before .if1 .left) (c .before .before .before .before .place-of .result) (c .before .before .before .before .place-of .ensures) _ (c .before .before .lay-level .ensures) }
+returns-2 c =
+    let c4 = c .before .before .before .before in
+    let c5 = c4 .before in
+    let c6 = c5 .before in
+    let c12 = c6 .before .before .before .before .before .before in
+    record { cause = sym (c5 .if1 .left) ∙ c6 .lent-cause .ensures; refused = λ f. absurd (f refl); laid = λ _. level-in (given (c12)) (c12 .args .work .now) (sym (c6 .lent-cause .ensures) ∙ c5 .if1 .left) (c4 .place-of .result) (c4 .place-of .ensures) _ (c .before .before .lay-level .ensures) }
 
 pub enter-spec : {M : Type 1} → statement M
 enter-spec =

@@ -1,3 +1,4 @@
+-- The invariant: with what is left, the sum so far is the sum of all. Assumes nothing.
 use Prim.Native.Nat.{_≤_, _<_, _-_, _+_, _^_}
 use mathlib.Core.Path.{_≡_, sym}
 use native.Mathlib.Omega.{arith}
@@ -31,7 +32,11 @@ add-total : tie.Need-add-total Inv-loop μ-loop
 add-total c = omega (arith, c .before .shared-slice-known2 .given (c .before .before .before .loop .i), c .wide .ensures)
 
 returns : tie.Need-returns Inv-loop μ-loop
-returns c = sym (le-leb (2 ^ 31) (sum (c .before .before .before .before .before .before .args .weights .now)) (omega (arith, c .before .wide .ensures, c .before .before .before .before .loop .inv .2, sum-drop (c .before .before .before .before .before .before .args .weights .now) (c .before .before .before .before .loop .i) (c .before .before .before .loop-test .taken), c .if1 .taken)))
+returns c =
+    let c3 = c .before .before .before in
+    let c4 = c3 .before in
+    let c6 = c4 .before .before in
+    sym (le-leb (2 ^ 31) (sum (c6 .args .weights .now)) (omega (arith, c .before .wide .ensures, c4 .loop .inv .2, sum-drop (c6 .args .weights .now) (c4 .loop .i) (c3 .loop-test .taken), c .if1 .taken)))
 
 add-i : tie.Need-add-i Inv-loop μ-loop
 add-i c = search needs
@@ -40,10 +45,16 @@ loop-less : tie.Need-loop-less Inv-loop μ-loop
 loop-less c = search needs
 
 loop-again : tie.Need-loop-again Inv-loop μ-loop
-loop-again c = (omega arith, omega (arith, c .if1 .left), omega (arith, c .before .wide .ensures, c .before .before .before .before .loop .inv .2, sum-drop (c .before .before .before .before .before .before .args .weights .now) (c .before .before .before .before .loop .i) (c .before .before .before .loop-test .taken)))
+loop-again c =
+    let c3 = c .before .before .before in
+    let c4 = c3 .before in
+    let c6 = c4 .before .before in
+    (omega arith, omega (arith, c .if1 .left), omega (arith, c .before .wide .ensures, c4 .loop .inv .2, sum-drop (c6 .args .weights .now) (c4 .loop .i) (c3 .loop-test .taken)))
 
 returns-2 : tie.Need-returns-2 Inv-loop μ-loop
-returns-2 c = sym (lt-leb (2 ^ 31) (sum (c .before .before .before .args .weights .now)) (omega (arith, c .before .loop .inv .1, rw (drop-of-length-le (c .before .before .before .args .weights .now) (c .loop-test .left)) at (c .before .loop .inv .2))))
+returns-2 c =
+    let c3 = c .before .before .before in
+    sym (lt-leb (2 ^ 31) (sum (c3 .args .weights .now)) (omega (arith, c .before .loop .inv .1, rw (drop-of-length-le (c3 .args .weights .now) (c .loop-test .left)) at (c .before .loop .inv .2))))
 
 pub heavy-spec : {M : Type 1} → statement M
 heavy-spec =

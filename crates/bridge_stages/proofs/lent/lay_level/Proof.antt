@@ -1,3 +1,4 @@
+-- Four copies, each of which leaves those before it. Assumes nothing.
 use Rattle.bridge_stages.proofs.LentLaws.{level-laid}
 use borrow.Author.Needs.{needs}
 use Rattle.bridge_stages.proofs.lent.lay_level.Statement.{statement}
@@ -34,7 +35,13 @@ same-length : tie.Need-same-length
 same-length c = search needs
 
 returns : tie.Need-returns
-returns c = level-laid (c .before .before .before .before .before .before .before .before .before .before .before .before .before .before .before .before .before .before .before .before .before .before .before .args .work .now) (c .before .before .before .before .before .before .before .before .before .before .before .before .before .before .before .copy-part .last .0) (c .before .before .before .before .before .before .before .before .before .before .copy-part2 .last .0) (c .before .before .before .before .before .before .copy-part3 .last .0) (c .before .before .copy-part4 .last .0) (c .before .before .before .before .before .before .before .before .before .before .before .before .before .before .before .before .before .before .before .before .before .before .before .args .l) (c .before .before .before .before .before .before .before .before .before .before .before .before .before .before .before .before .before .before .before .before .before .before .before .args .offsets .now) (c .before .before .before .before .before .before .before .before .before .before .before .before .before .before .before .before .before .before .before .before .before .before .before .args .neighbors .now) (c .before .before .before .before .before .before .before .before .before .before .before .before .before .before .before .before .before .before .before .before .before .before .before .args .weights .now) (c .before .before .before .before .before .before .before .before .before .before .before .before .before .before .before .before .before .before .before .before .before .before .before .args .owners .now) (c .before .before .before .before .before .before .before .before .before .before .before .before .before .before .before .before .before .before .before .before .before .before .before .pre) (c .before .before .before .before .before .before .before .before .before .before .before .before .before .before .before .copy-part .ensures) (c .before .before .before .before .before .before .before .before .before .before .copy-part2 .ensures) (c .before .before .before .before .before .before .copy-part3 .ensures) (c .before .before .copy-part4 .ensures)
+returns c =
+    let c6 = c .before .before .before .before .before .before in
+    let c10 = c6 .before .before .before .before in
+    let c15 = c10 .before .before .before .before .before in
+    let c23 = c15 .before .before .before .before .before .before .before .before in
+    let a = c23 .args in
+    level-laid (a .work .now) (c15 .copy-part .last .0) (c10 .copy-part2 .last .0) (c6 .copy-part3 .last .0) (c .before .before .copy-part4 .last .0) (a .l) (a .offsets .now) (a .neighbors .now) (a .weights .now) (a .owners .now) (c23 .pre) (c15 .copy-part .ensures) (c10 .copy-part2 .ensures) (c6 .copy-part3 .ensures) (c .before .before .copy-part4 .ensures)
 
 pub lay-level-spec : {M : Type 1} → statement M
 lay-level-spec =

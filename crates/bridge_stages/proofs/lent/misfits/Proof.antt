@@ -1,3 +1,4 @@
+-- One test after the other. Assumes nothing.
 use mathlib.Core.Bool.{true, false}
 use mathlib.Core.Path.{refl}
 use Rattle.bridge_stages.specs.Lent.{Lent, lent}
@@ -14,10 +15,14 @@ vertex-count-requires : tie.Need-vertex-count-requires
 vertex-count-requires c κs = search needs
 
 returns : tie.Need-returns
-returns c = misfit-is (given (c .before .before .before .before .before .before)) (c .before .before .before .before .before .before .args .work) true _ _ (unequal _ _ _ (c .before .vertex-count .ensures) (c .if1 .taken)) refl refl
+returns c =
+    let c6 = c .before .before .before .before .before .before in
+    misfit-is (given (c6)) (c6 .args .work) true _ _ (unequal _ _ _ (c .before .vertex-count .ensures) (c .if1 .taken)) refl refl
 
 returns-2 : tie.Need-returns-2
-returns-2 c = misfit-is (given (c .before .before .before .before .before .before .before)) (c .before .before .before .before .before .before .before .args .work) false true _ (equal _ _ _ (c .before .before .vertex-count .ensures) (c .before .if1 .left)) (unequal _ _ _ (c .before .before .vertex-count .ensures) (c .if2 .taken)) refl
+returns-2 c =
+    let c7 = c .before .before .before .before .before .before .before in
+    misfit-is (given (c7)) (c7 .args .work) false true _ (equal _ _ _ (c .before .before .vertex-count .ensures) (c .before .if1 .left)) (unequal _ _ _ (c .before .before .vertex-count .ensures) (c .if2 .taken)) refl
 
 index-requires : tie.Need-index-requires
 index-requires c κs = search needs
@@ -26,7 +31,11 @@ need-for-requires : tie.Need-need-for-requires
 need-for-requires c κs = search needs
 
 returns-3 : tie.Need-returns-3
-returns-3 c = misfit-is (given (c .before .before .before .before .before .before .before .before .before)) (c .before .before .before .before .before .before .before .before .before .args .work) false false _ (equal _ _ _ (c .before .before .before .before .vertex-count .ensures) (c .before .before .before .if1 .left)) (equal _ _ _ (c .before .before .before .before .vertex-count .ensures) (c .before .before .if2 .left)) (cc)
+returns-3 c =
+    let c3 = c .before .before .before in
+    let c4 = c3 .before in
+    let c9 = c4 .before .before .before .before .before in
+    misfit-is (given (c9)) (c9 .args .work) false false _ (equal _ _ _ (c4 .vertex-count .ensures) (c3 .if1 .left)) (equal _ _ _ (c4 .vertex-count .ensures) (c .before .before .if2 .left)) (cc)
 
 pub misfits-spec : {M : Type 1} → statement M
 misfits-spec =

@@ -1,3 +1,4 @@
+-- Within the limits no product overflows. Assumes nothing.
 use native.Mathlib.Omega.{arith}
 use Rattle.bridge_stages.proofs.LentLaws.{need-small}
 use borrow.Author.Needs.{needs}

@@ -1,3 +1,4 @@
+-- Within the limits no sum overflows. Assumes nothing.
 use lib.ListN.{length}
 use Rattle.bridge_stages.proofs.LentLaws.{place-is}
 use borrow.Author.Needs.{needs}
@@ -44,7 +45,10 @@ add-t15 : tie.Need-add-t15
 add-t15 c = search needs
 
 returns : tie.Need-returns
-returns c = place-is (length (c .before .before .before .before .before .before .args .neighbors .now)) (c .before .before .before .vertex-count .ensures) (c .index .ensures) (c .before .before .level-at .ensures) (c .before .level-at2 .ensures)
+returns c =
+    let c3 = c .before .before .before in
+    let c6 = c3 .before .before .before in
+    place-is (length (c6 .args .neighbors .now)) (c3 .vertex-count .ensures) (c .index .ensures) (c .before .before .level-at .ensures) (c .before .level-at2 .ensures)
 
 pub place-of-spec : {M : Type 1} → statement M
 place-of-spec =

@@ -51,8 +51,9 @@ holds-requires c κs = search needs
 told : (c : tie.After-holds Inv-loop μ-loop) → c .holds .result ≡ named (c .before .before .before .before .before .before .before .before .before .args .offsets .now) (c .before .before .before .before .before .before .before .before .before .args .neighbors .now) (c .before .before .before .before .before .before .before .before .before .args .v) (c .before .before .wide .result)
 unfolding Rising
 told c =
-    let a = c .before .before .before .before .before .before .before .before .before .args in
-    c .holds .ensures ∙ rw (c .before .neighbors-of2 .ensures) (found-elem (neighborsOf (a .offsets .now) (a .neighbors .now) (c .before .before .wide .result)) (a .v) (c .before .before .before .before .before .before .before .before .before .pre (c .before .before .wide .result)))
+    let c9 = c .before .before .before .before .before .before .before .before .before in
+    let a = c9 .args in
+    c .holds .ensures ∙ rw (c .before .neighbors-of2 .ensures) (found-elem (neighborsOf (a .offsets .now) (a .neighbors .now) (c .before .before .wide .result)) (a .v) (c9 .pre (c .before .before .wide .result)))
 
 returns : tie.Need-returns Inv-loop μ-loop
 returns c =

@@ -53,9 +53,10 @@ loop-again c =
 
 returns-2 : tie.Need-returns-2 Inv-loop μ-loop
 returns-2 c =
+    let c5 = c .before .before .before .before .before in
     let l = c .before .loop in
     let n = c .before .before .vertex-count .result in
-    sym (all-end (mirroredRow (c .before .before .before .before .before .args .offsets .now) (c .before .before .before .before .before .args .neighbors .now)) (range 0 n) (l .v) (rw (length-range 0 n) (c .loop-test .left))) ∙ l .inv .1
+    sym (all-end (mirroredRow (c5 .args .offsets .now) (c5 .args .neighbors .now)) (range 0 n) (l .v) (rw (length-range 0 n) (c .loop-test .left))) ∙ l .inv .1
 
 pub mirrored-rows-spec : {M : Type 1} → statement M
 mirrored-rows-spec =

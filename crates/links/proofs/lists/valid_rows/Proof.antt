@@ -40,12 +40,16 @@ valid-row-requires c κs = search needs
 
 returns : tie.Need-returns Inv-loop μ-loop
 returns c =
-    let l = c .before .before .before .before .loop in
-    let o = c .before .before .before .before .before .before .before .before .args .offsets .now in
-    let s = c .before .before .before .before .before .before .before .before .args .neighbors .now in
-    let n = c .before .before .before .before .before .vertex-count .result in
-    let e : valid o s (l .v) ≡ false = sym (c .before .valid-row .ensures ∙ rw (c .before .before .neighbors-of .ensures, c .before .before .before .before .before .vertex-count .ensures)) ∙ not-true _ (c .if1 .taken) in
-    sym (all-fails (valid o s) (range 0 n) (l .v) (l .v) (rw (length-range 0 n) (c .before .before .before .loop-test .taken)) (at-range n (l .v) (omega arith)) e) ∙ l .inv .1
+    let c3 = c .before .before .before in
+    let c4 = c3 .before in
+    let c5 = c4 .before in
+    let c8 = c5 .before .before .before in
+    let l = c4 .loop in
+    let o = c8 .args .offsets .now in
+    let s = c8 .args .neighbors .now in
+    let n = c5 .vertex-count .result in
+    let e : valid o s (l .v) ≡ false = sym (c .before .valid-row .ensures ∙ rw (c .before .before .neighbors-of .ensures, c5 .vertex-count .ensures)) ∙ not-true _ (c .if1 .taken) in
+    sym (all-fails (valid o s) (range 0 n) (l .v) (l .v) (rw (length-range 0 n) (c3 .loop-test .taken)) (at-range n (l .v) (omega arith)) e) ∙ l .inv .1
 
 add-v : tie.Need-add-v Inv-loop μ-loop
 add-v c = search needs
@@ -55,18 +59,23 @@ loop-less c = search needs
 
 loop-again : tie.Need-loop-again Inv-loop μ-loop
 loop-again c =
-    let l = c .before .before .before .before .loop in
-    let o = c .before .before .before .before .before .before .before .before .args .offsets .now in
-    let s = c .before .before .before .before .before .before .before .before .args .neighbors .now in
-    let n = c .before .before .before .before .before .vertex-count .result in
-    let e : valid o s (l .v) ≡ true = sym (c .before .valid-row .ensures ∙ rw (c .before .before .neighbors-of .ensures, c .before .before .before .before .before .vertex-count .ensures)) ∙ not-false _ (c .if1 .left) in
-    (omega arith, all-next (valid o s) (range 0 n) (l .v) (l .v) (rw (length-range 0 n) (c .before .before .before .loop-test .taken)) (at-range n (l .v) (omega arith)) e ∙ l .inv .1)
+    let c3 = c .before .before .before in
+    let c4 = c3 .before in
+    let c5 = c4 .before in
+    let c8 = c5 .before .before .before in
+    let l = c4 .loop in
+    let o = c8 .args .offsets .now in
+    let s = c8 .args .neighbors .now in
+    let n = c5 .vertex-count .result in
+    let e : valid o s (l .v) ≡ true = sym (c .before .valid-row .ensures ∙ rw (c .before .before .neighbors-of .ensures, c5 .vertex-count .ensures)) ∙ not-false _ (c .if1 .left) in
+    (omega arith, all-next (valid o s) (range 0 n) (l .v) (l .v) (rw (length-range 0 n) (c3 .loop-test .taken)) (at-range n (l .v) (omega arith)) e ∙ l .inv .1)
 
 returns-2 : tie.Need-returns-2 Inv-loop μ-loop
 returns-2 c =
+    let c5 = c .before .before .before .before .before in
     let l = c .before .loop in
     let n = c .before .before .vertex-count .result in
-    sym (all-end (valid (c .before .before .before .before .before .args .offsets .now) (c .before .before .before .before .before .args .neighbors .now)) (range 0 n) (l .v) (rw (length-range 0 n) (c .loop-test .left))) ∙ l .inv .1
+    sym (all-end (valid (c5 .args .offsets .now) (c5 .args .neighbors .now)) (range 0 n) (l .v) (rw (length-range 0 n) (c .loop-test .left))) ∙ l .inv .1
 
 pub valid-rows-spec : {M : Type 1} → statement M
 valid-rows-spec =

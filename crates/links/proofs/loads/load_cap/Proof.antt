@@ -1,3 +1,4 @@
+-- The share of 1000 + t. Assumes nothing.
 use borrow.Author.Needs.{needs}
 use Rattle.links.specs.Loads.{loadCap}
 use Rattle.links.proofs.loads.load_cap.Statement.{statement}

@@ -1,3 +1,4 @@
+-- The share of 1000 − t, where t is 500 at most. Assumes nothing.
 use borrow.Author.Tests.{lt-ltb}
 use borrow.Author.Needs.{needs}
 use Rattle.links.specs.Loads.{minimumLoad, share}

@@ -1,3 +1,4 @@
+-- a × b is too great just where (2^64 − 1) / b is below a. Assumes nothing.
 use Prim.Native.Nat.{ℕ, _<_, _*_}
 use mathlib.Core.Path.{_≡_}
 use native.Mathlib.Nat.{div-lt-iff-lt-mul, le-div-iff-mul-le, mul-zero}

@@ -1,3 +1,4 @@
+-- The divisor is not 0, and no product but the saturating one is large. Assumes nothing.
 use Prim.Native.Nat.{_*_, _/_}
 use mathlib.Core.Path.{ap}
 use borrow.Author.Tests.{lt-ltb, le-ltb, eq-eqb, ne-eqb}

@@ -1,3 +1,4 @@
+-- The invariant: from rank on there is an unmarked one just where there is one at all. Assumes nothing.
 use Prim.Native.Nat.{_≤_, _-_}
 use mathlib.Core.Path.{sym, _∙_, _≡_}
 use native.Mathlib.Omega.{arith}
@@ -25,9 +26,11 @@ element-copy-out-if1 c = search needs
 
 returns : tie.Need-returns Inv-loop μ-loop
 returns c =
-    let marks = c .before .before .before .before .args .marks .now in
-    let i = c .before .before .before .loop .rank in
-    sym (sym (c .before .before .before .loop .inv .1) ∙ any-range (λ q. eqb (at marks q) 0) i (c .before .before .before .before .args .ranks) (c .before .before .loop-test .taken) ∙ rw (eq-eqb (at marks i) 0 (c .if1 .taken)))
+    let c3 = c .before .before .before in
+    let c4 = c3 .before in
+    let marks = c4 .args .marks .now in
+    let i = c3 .loop .rank in
+    sym (sym (c3 .loop .inv .1) ∙ any-range (λ q. eqb (at marks q) 0) i (c4 .args .ranks) (c .before .before .loop-test .taken) ∙ rw (eq-eqb (at marks i) 0 (c .if1 .taken)))
 
 add-rank : tie.Need-add-rank Inv-loop μ-loop
 add-rank c = search needs
@@ -37,10 +40,12 @@ loop-less c = search needs
 
 loop-again : tie.Need-loop-again Inv-loop μ-loop
 loop-again c =
-    let marks = c .before .before .before .before .args .marks .now in
-    let i = c .before .before .before .loop .rank in (
+    let c3 = c .before .before .before in
+    let c4 = c3 .before in
+    let marks = c4 .args .marks .now in
+    let i = c3 .loop .rank in (
       omega arith,
-      rw (ne-eqb (at marks i) 0 (c .if1 .left)) at (sym (any-range (λ q. eqb (at marks q) 0) i (c .before .before .before .before .args .ranks) (c .before .before .loop-test .taken))) ∙ c .before .before .before .loop .inv .1,
+      rw (ne-eqb (at marks i) 0 (c .if1 .left)) at (sym (any-range (λ q. eqb (at marks q) 0) i (c4 .args .ranks) (c .before .before .loop-test .taken))) ∙ c3 .loop .inv .1,
     )
 
 returns-2 : tie.Need-returns-2 Inv-loop μ-loop

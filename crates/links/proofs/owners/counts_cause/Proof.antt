@@ -1,3 +1,4 @@
+-- Refusal 2, else 3, else none. Assumes nothing.
 use native.Mathlib.Omega.{arith}
 use borrow.Author.Tests.{lt-ltb, le-ltb, eq-eqb, ne-eqb}
 use borrow.Author.Needs.{needs}
@@ -25,20 +26,29 @@ returns-3 c =
 returns-4 : tie.Need-returns-4
 unfolding countsCause badRanks tooMany
 returns-4 c =
-    let a = c .before .before .before .before .before .args in
-    simp (ne-eqb _ _ (c .before .before .before .before .if1 .left), ne-eqb _ _ (c .before .before .before .if2 .left), le-ltb (a .n) (a .ranks) (omega arith), ne-eqb (a .n) 0 (λ e. omega arith), lt-ltb _ _ (c .if4 .taken))
+    let c3 = c .before .before .before in
+    let c4 = c3 .before in
+    let c5 = c4 .before in
+    let a = c5 .args in
+    simp (ne-eqb _ _ (c4 .if1 .left), ne-eqb _ _ (c3 .if2 .left), le-ltb (a .n) (a .ranks) (omega arith), ne-eqb (a .n) 0 (λ e. omega arith), lt-ltb _ _ (c .if4 .taken))
 
 returns-5 : tie.Need-returns-5
 unfolding countsCause badRanks tooMany
 returns-5 c =
-    let a = c .before .before .before .before .before .before .args in
-    simp (ne-eqb _ _ (c .before .before .before .before .before .if1 .left), ne-eqb _ _ (c .before .before .before .before .if2 .left), le-ltb (a .n) (a .ranks) (omega arith), ne-eqb (a .n) 0 (λ e. omega arith), le-ltb _ _ (c .before .if4 .left), lt-ltb _ _ (c .if5 .taken))
+    let c4 = c .before .before .before .before in
+    let c5 = c4 .before in
+    let c6 = c5 .before in
+    let a = c6 .args in
+    simp (ne-eqb _ _ (c5 .if1 .left), ne-eqb _ _ (c4 .if2 .left), le-ltb (a .n) (a .ranks) (omega arith), ne-eqb (a .n) 0 (λ e. omega arith), le-ltb _ _ (c .before .if4 .left), lt-ltb _ _ (c .if5 .taken))
 
 returns-6 : tie.Need-returns-6
 unfolding countsCause badRanks tooMany
 returns-6 c =
-    let a = c .before .before .before .before .before .before .args in
-    simp (ne-eqb _ _ (c .before .before .before .before .before .if1 .left), ne-eqb _ _ (c .before .before .before .before .if2 .left), le-ltb (a .n) (a .ranks) (omega arith), ne-eqb (a .n) 0 (λ e. omega arith), le-ltb _ _ (c .before .if4 .left), le-ltb _ _ (c .if5 .left))
+    let c4 = c .before .before .before .before in
+    let c5 = c4 .before in
+    let c6 = c5 .before in
+    let a = c6 .args in
+    simp (ne-eqb _ _ (c5 .if1 .left), ne-eqb _ _ (c4 .if2 .left), le-ltb (a .n) (a .ranks) (omega arith), ne-eqb (a .n) 0 (λ e. omega arith), le-ltb _ _ (c .before .if4 .left), le-ltb _ _ (c .if5 .left))
 
 pub counts-cause-spec : {M : Type 1} → statement M
 counts-cause-spec =

@@ -1,3 +1,4 @@
+-- The cause decides the case. Assumes nothing.
 use mathlib.Core.Path.{sym, _∙_, ap}
 use borrow.Author.Tests.{eq-eqb, ne-eqb}
 use Rattle.links.specs.declared.owners.Assignment.the-variants.{Refused}

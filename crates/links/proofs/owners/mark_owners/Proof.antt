@@ -1,3 +1,4 @@
+-- The invariant: the owners before i are marked, and no other rank. Assumes nothing.
 use Prim.Native.Nat.{_≤_, _-_}
 use native.Mathlib.Omega.{arith}
 use lib.Seq.{take-all}

@@ -1,3 +1,4 @@
+-- The invariant: with what is owned from i on, the count is all that is owned. Assumes nothing.
 use Prim.Native.Nat.{_≤_, _+_, _-_}
 use mathlib.Core.Path.{sym, _≡_}
 use mathlib.Core.Logic.{⊎-elim}

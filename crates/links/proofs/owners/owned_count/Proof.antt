@@ -1,3 +1,4 @@
+-- A rank that is there, or refusal 12. Assumes nothing.
 use mathlib.Core.Path.{ap}
 use borrow.Author.Tests.{lt-ltb, le-ltb}
 use borrow.Author.Needs.{needs}

@@ -1,3 +1,4 @@
+-- The invariant: from i on there is a stray owner just where there is one at all. Assumes nothing.
 use Prim.Native.Nat.{_≤_, _-_}
 use mathlib.Core.Path.{refl, sym, _∙_, _≡_}
 use native.Mathlib.Omega.{arith}

@@ -42,9 +42,11 @@ loop-less c = search needs
 
 loop-again : tie.Need-loop-again Inv-loop μ-loop
 loop-again c =
+    let c3 = c .before .before .before in
+    let c6 = c3 .before .before .before in
     let l = c .before .before .loop in
-    let a = c .before .before .before .before .before .before .args in
-    (omega arith, simp length-set (l .inv .1), ap (λ (d : List ℕ). set d (l .i) (at (a .src .now) (l .i))) (l .inv .2) ∙ copy-more (a .src .now) (a .dst .now) (l .i) (omega (arith, c .before .before .before .least .ensures)) (omega (arith, c .before .before .before .least .ensures)))
+    let a = c6 .args in
+    (omega arith, simp length-set (l .inv .1), ap (λ (d : List ℕ). set d (l .i) (at (a .src .now) (l .i))) (l .inv .2) ∙ copy-more (a .src .now) (a .dst .now) (l .i) (omega (arith, c3 .least .ensures)) (omega (arith, c3 .least .ensures)))
 
 same-length : tie.Need-same-length Inv-loop μ-loop
 same-length c = c .before .loop .inv .1

@@ -43,7 +43,9 @@ returns c =
 
 returns-2 : tie.Need-returns-2
 unfolding copiedPart
-returns-2 c = let a = c .before .before .before .before .args in clip-none (a .work .now) (a .a) (a .e) (λ (t : List ℕ). copied t (a .src .now)) (copied-none (a .src .now)) (omega (arith, c .before .least .ensures))
+returns-2 c =
+    let c4 = c .before .before .before .before in
+    let a = c4 .args in clip-none (a .work .now) (a .a) (a .e) (λ (t : List ℕ). copied t (a .src .now)) (copied-none (a .src .now)) (omega (arith, c .before .least .ensures))
 
 pub copy-part-spec : {M : Type 1} → statement M
 copy-part-spec =

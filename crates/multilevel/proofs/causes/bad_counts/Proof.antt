@@ -1,3 +1,4 @@
+-- One test after the other. Assumes nothing.
 use borrow.Author.Tests.{eq-eqb, ne-eqb}
 use Rattle.multilevel.specs.Causes.{badCounts}
 use Rattle.multilevel.proofs.causes.bad_counts.Statement.{statement}

@@ -1,3 +1,4 @@
+-- The tests in their order, each of which may rest on those before it. Assumes nothing.
 use mathlib.Core.Bool.{true, false}
 use mathlib.Core.Path.{refl, sym, _∙_}
 use Rattle.multilevel.specs.Causes.{Call, callOf, tooShort}
@@ -34,9 +35,13 @@ bad-counts-requires c κs = search needs
 
 returns-2 : tie.Need-returns-2
 returns-2 c =
-    early-is (call (c .before .before .before .before .before .before .before .before)) false true _ _ _
-    (options-fine (c .before .before .before .before .before .before .before .before .args .options) (c .before .before .before .before .before .validate .result) (c .before .before .before .before .before .validate .ensures) (c .before .before .before .before .if1 .left))
-    (counts-as (c .before .before .before .vertex-count .ensures) (c .before .before .index .ensures) (c .before .bad-counts .ensures) (c .if2 .taken))
+    let c3 = c .before .before .before in
+    let c4 = c3 .before in
+    let c5 = c4 .before in
+    let c8 = c5 .before .before .before in
+    early-is (call (c8)) false true _ _ _
+    (options-fine (c8 .args .options) (c5 .validate .result) (c5 .validate .ensures) (c4 .if1 .left))
+    (counts-as (c3 .vertex-count .ensures) (c .before .before .index .ensures) (c .before .bad-counts .ensures) (c .if2 .taken))
     refl
     refl
     refl
@@ -46,10 +51,16 @@ over-limits-requires c κs = search needs
 
 returns-3 : tie.Need-returns-3
 returns-3 c =
-    early-is (call (c .before .before .before .before .before .before .before .before .before .before)) false false true _ _
-    (options-fine (c .before .before .before .before .before .before .before .before .before .before .args .options) (c .before .before .before .before .before .before .before .validate .result) (c .before .before .before .before .before .before .before .validate .ensures) (c .before .before .before .before .before .before .if1 .left))
-    (counts-as (c .before .before .before .before .before .vertex-count .ensures) (c .before .before .before .before .index .ensures) (c .before .before .before .bad-counts .ensures) (c .before .before .if2 .left))
-    (limits-as (c .before .before .before .before .before .vertex-count .ensures) (c .before .before .before .before .index .ensures) _ _ (c .before .over-limits .ensures) (c .if3 .taken))
+    let c3 = c .before .before .before in
+    let c4 = c3 .before in
+    let c5 = c4 .before in
+    let c6 = c5 .before in
+    let c7 = c6 .before in
+    let c10 = c7 .before .before .before in
+    early-is (call (c10)) false false true _ _
+    (options-fine (c10 .args .options) (c7 .validate .result) (c7 .validate .ensures) (c6 .if1 .left))
+    (counts-as (c5 .vertex-count .ensures) (c4 .index .ensures) (c3 .bad-counts .ensures) (c .before .before .if2 .left))
+    (limits-as (c5 .vertex-count .ensures) (c4 .index .ensures) _ _ (c .before .over-limits .ensures) (c .if3 .taken))
     refl
     refl
 
@@ -58,11 +69,20 @@ lists-cause-requires c κs = search needs
 
 returns-4 : tie.Need-returns-4
 returns-4 c =
-    early-is (call (c .before .before .before .before .before .before .before .before .before .before .before .before)) false false false true _
-    (options-fine (c .before .before .before .before .before .before .before .before .before .before .before .before .args .options) (c .before .before .before .before .before .before .before .before .before .validate .result) (c .before .before .before .before .before .before .before .before .before .validate .ensures) (c .before .before .before .before .before .before .before .before .if1 .left))
-    (counts-as (c .before .before .before .before .before .before .before .vertex-count .ensures) (c .before .before .before .before .before .before .index .ensures) (c .before .before .before .before .before .bad-counts .ensures) (c .before .before .before .before .if2 .left))
-    (limits-as (c .before .before .before .before .before .before .before .vertex-count .ensures) (c .before .before .before .before .before .before .index .ensures) _ _ (c .before .before .before .over-limits .ensures) (c .before .before .if3 .left))
-    (lists-bad (c .before .before .before .before .before .before .before .before .before .before .before .before .args .offsets .now) (c .before .before .before .before .before .before .before .before .before .before .before .before .args .neighbors .now) (c .before .lists-cause .result) (c .before .lists-cause .ensures .cause) (c .if4 .taken))
+    let c3 = c .before .before .before in
+    let c4 = c3 .before in
+    let c5 = c4 .before in
+    let c6 = c5 .before in
+    let c7 = c6 .before in
+    let c8 = c7 .before in
+    let c9 = c8 .before in
+    let c12 = c9 .before .before .before in
+    let a = c12 .args in
+    early-is (call (c12)) false false false true _
+    (options-fine (a .options) (c9 .validate .result) (c9 .validate .ensures) (c8 .if1 .left))
+    (counts-as (c7 .vertex-count .ensures) (c6 .index .ensures) (c5 .bad-counts .ensures) (c4 .if2 .left))
+    (limits-as (c7 .vertex-count .ensures) (c6 .index .ensures) _ _ (c3 .over-limits .ensures) (c .before .before .if3 .left))
+    (lists-bad (a .offsets .now) (a .neighbors .now) (c .before .lists-cause .result) (c .before .lists-cause .ensures .cause) (c .if4 .taken))
     refl
 
 too-short-requires : tie.Need-too-short-requires
@@ -71,22 +91,44 @@ too-short-requires c κs = limited _ _ _ _ (sym (c .before .before .before .over
 returns-5 : tie.Need-returns-5
 unfolding tooShort
 returns-5 c =
-    early-is (call (c .before .before .before .before .before .before .before .before .before .before .before .before .before .before)) false false false false true
-    (options-fine (c .before .before .before .before .before .before .before .before .before .before .before .before .before .before .args .options) (c .before .before .before .before .before .before .before .before .before .before .before .validate .result) (c .before .before .before .before .before .before .before .before .before .before .before .validate .ensures) (c .before .before .before .before .before .before .before .before .before .before .if1 .left))
-    (counts-as (c .before .before .before .before .before .before .before .before .before .vertex-count .ensures) (c .before .before .before .before .before .before .before .before .index .ensures) (c .before .before .before .before .before .before .before .bad-counts .ensures) (c .before .before .before .before .before .before .if2 .left))
-    (limits-as (c .before .before .before .before .before .before .before .before .before .vertex-count .ensures) (c .before .before .before .before .before .before .before .before .index .ensures) _ _ (c .before .before .before .before .before .over-limits .ensures) (c .before .before .before .before .if3 .left))
-    (lists-fine (c .before .before .before .before .before .before .before .before .before .before .before .before .before .before .args .offsets .now) (c .before .before .before .before .before .before .before .before .before .before .before .before .before .before .args .neighbors .now) (c .before .before .before .lists-cause .result) (c .before .before .before .lists-cause .ensures .cause) (c .before .before .if4 .left))
-    (room-as (c .before .before .before .before .before .before .before .before .before .vertex-count .ensures) (c .before .before .before .before .before .before .before .before .index .ensures) _ _ _ _ (c .before .too-short .ensures) (c .if5 .taken))
+    let c3 = c .before .before .before in
+    let c4 = c3 .before in
+    let c5 = c4 .before in
+    let c6 = c5 .before in
+    let c7 = c6 .before in
+    let c8 = c7 .before in
+    let c9 = c8 .before in
+    let c10 = c9 .before in
+    let c11 = c10 .before in
+    let c14 = c11 .before .before .before in
+    let a = c14 .args in
+    early-is (call (c14)) false false false false true
+    (options-fine (a .options) (c11 .validate .result) (c11 .validate .ensures) (c10 .if1 .left))
+    (counts-as (c9 .vertex-count .ensures) (c8 .index .ensures) (c7 .bad-counts .ensures) (c6 .if2 .left))
+    (limits-as (c9 .vertex-count .ensures) (c8 .index .ensures) _ _ (c5 .over-limits .ensures) (c4 .if3 .left))
+    (lists-fine (a .offsets .now) (a .neighbors .now) (c3 .lists-cause .result) (c3 .lists-cause .ensures .cause) (c .before .before .if4 .left))
+    (room-as (c9 .vertex-count .ensures) (c8 .index .ensures) _ _ _ _ (c .before .too-short .ensures) (c .if5 .taken))
 
 returns-6 : tie.Need-returns-6
 unfolding tooShort
 returns-6 c =
-    early-is (call (c .before .before .before .before .before .before .before .before .before .before .before .before .before .before)) false false false false false
-    (options-fine (c .before .before .before .before .before .before .before .before .before .before .before .before .before .before .args .options) (c .before .before .before .before .before .before .before .before .before .before .before .validate .result) (c .before .before .before .before .before .before .before .before .before .before .before .validate .ensures) (c .before .before .before .before .before .before .before .before .before .before .if1 .left))
-    (counts-as (c .before .before .before .before .before .before .before .before .before .vertex-count .ensures) (c .before .before .before .before .before .before .before .before .index .ensures) (c .before .before .before .before .before .before .before .bad-counts .ensures) (c .before .before .before .before .before .before .if2 .left))
-    (limits-as (c .before .before .before .before .before .before .before .before .before .vertex-count .ensures) (c .before .before .before .before .before .before .before .before .index .ensures) _ _ (c .before .before .before .before .before .over-limits .ensures) (c .before .before .before .before .if3 .left))
-    (lists-fine (c .before .before .before .before .before .before .before .before .before .before .before .before .before .before .args .offsets .now) (c .before .before .before .before .before .before .before .before .before .before .before .before .before .before .args .neighbors .now) (c .before .before .before .lists-cause .result) (c .before .before .before .lists-cause .ensures .cause) (c .before .before .if4 .left))
-    (room-as (c .before .before .before .before .before .before .before .before .before .vertex-count .ensures) (c .before .before .before .before .before .before .before .before .index .ensures) _ _ _ _ (c .before .too-short .ensures) (c .if5 .left))
+    let c3 = c .before .before .before in
+    let c4 = c3 .before in
+    let c5 = c4 .before in
+    let c6 = c5 .before in
+    let c7 = c6 .before in
+    let c8 = c7 .before in
+    let c9 = c8 .before in
+    let c10 = c9 .before in
+    let c11 = c10 .before in
+    let c14 = c11 .before .before .before in
+    let a = c14 .args in
+    early-is (call (c14)) false false false false false
+    (options-fine (a .options) (c11 .validate .result) (c11 .validate .ensures) (c10 .if1 .left))
+    (counts-as (c9 .vertex-count .ensures) (c8 .index .ensures) (c7 .bad-counts .ensures) (c6 .if2 .left))
+    (limits-as (c9 .vertex-count .ensures) (c8 .index .ensures) _ _ (c5 .over-limits .ensures) (c4 .if3 .left))
+    (lists-fine (a .offsets .now) (a .neighbors .now) (c3 .lists-cause .result) (c3 .lists-cause .ensures .cause) (c .before .before .if4 .left))
+    (room-as (c9 .vertex-count .ensures) (c8 .index .ensures) _ _ _ _ (c .before .too-short .ensures) (c .if5 .left))
 
 pub early-cause-spec : {M : Type 1} → statement M
 early-cause-spec =

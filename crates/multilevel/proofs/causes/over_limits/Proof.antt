@@ -1,3 +1,4 @@
+-- One test after the other. Assumes nothing.
 use borrow.Author.Tests.{lt-ltb, le-ltb}
 use Rattle.multilevel.specs.Causes.{overLimits}
 use Rattle.multilevel.proofs.causes.over_limits.Statement.{statement}

@@ -1,3 +1,4 @@
+-- One test after the other. Assumes nothing.
 use borrow.Author.Tests.{lt-ltb, le-ltb}
 use borrow.Author.Needs.{needs}
 use Rattle.multilevel.proofs.causes.too_short.Statement.{statement}

@@ -1,3 +1,4 @@
+-- Within the limits no product overflows. Assumes nothing.
 use native.Mathlib.Omega.{arith}
 use Rattle.multilevel.specs.Causes.{workNeed}
 use Rattle.multilevel.proofs.CauseLaws.{need-small}

@@ -1,20 +1,39 @@
+-- One of causes 1 to 5 refuses; else the needed work is lent to the division, and zeroed. Assumes nothing.
 use Prim.Native.Nat.{ℕ}
-use mathlib.Core.Path.{_∙_, ap, sym, refl}
+use mathlib.Core.Path.{_≡_, _∙_, ap, sym, refl}
 use native.Mathlib.Omega.{arith}
 use lib.ListN.{length}
 use Rattle.links.specs.Graph.{vertexCount}
-use Rattle.multilevel.specs.Causes.{callOf, workNeed}
+use Rattle.multilevel.specs.Causes.{Call, callOf, workNeed, needOf, earlyCause}
 use Rattle.multilevel.proofs.FinishLaws.{early-refused}
 use Rattle.multilevel.proofs.EndLaws.{whole-limits, whole-fits, whole-divisible, whole-zeroed, whole-partitioned}
 use borrow.Author.Needs.{needs}
 use Rattle.multilevel.proofs.driver.abtm_multilevel_partition.Statement.{statement}
 use Rattle.multilevel.proofs.driver.abtm_multilevel_partition.Tie as tie
 
+-- the call, that none of causes 1 to 5 is met, and how much work is needed
+abbrev call : tie.Start → Call
+call s = let a = s .args in callOf (a .offsets .now) (a .neighbors .now) (a .ranks) (a .options) (length (a .owners .now)) (length (a .work .now))
+
+passes : (c : tie.Else1) → earlyCause (call (c .before .before .before .before .before .before)) ≡ 0
+passes c = sym (c .before .early-cause .ensures) ∙ c .if1 .left
+
+need-is : (c : tie.After-work-need) → c .work-need .result ≡ needOf (call (c .before .before .before .before .before .before .before .before .before))
+need-is c =
+    let a = c .before .before .before .before .before .before .before .before .before .args in
+    let m = length (a .neighbors .now) in
+    let levels = a .options .«max_levels» in
+    c .work-need .ensures
+    ∙ ap (λ (x : ℕ). workNeed x m (c .before .index .result) levels) (c .before .before .vertex-count .ensures)
+    ∙ ap (λ (x : ℕ). workNeed (vertexCount (a .offsets .now)) m x levels) (c .before .index .ensures)
+
 early-cause-requires : tie.Need-early-cause-requires
 early-cause-requires c κs = search needs
 
 returns : tie.Need-returns
-returns c = early-refused (callOf (c .before .before .before .before .before .before .args .offsets .now) (c .before .before .before .before .before .before .args .neighbors .now) (c .before .before .before .before .before .before .args .ranks) (c .before .before .before .before .before .before .args .options) (length (c .before .before .before .before .before .before .args .owners .now)) (length (c .before .before .before .before .before .before .args .work .now))) (c .before .before .before .before .before .before .args .owners .now) (c .before .before .before .before .before .before .args .work .now) _ (c .before .early-cause .ensures) (c .if1 .taken)
+returns c =
+    let s = c .before .before .before .before .before .before in
+    early-refused (call s) (s .args .owners .now) (s .args .work .now) _ (c .before .early-cause .ensures) (c .if1 .taken)
 
 vertex-count-requires : tie.Need-vertex-count-requires
 vertex-count-requires c κs = search needs
@@ -23,7 +42,7 @@ index-requires : tie.Need-index-requires
 index-requires c κs = search needs
 
 work-need-requires : tie.Need-work-need-requires
-work-need-requires c κs = rw (c .before .vertex-count .ensures, c .index .ensures) (whole-limits (callOf (c .before .before .before .before .before .before .before .before .args .offsets .now) (c .before .before .before .before .before .before .before .before .args .neighbors .now) (c .before .before .before .before .before .before .before .before .args .ranks) (c .before .before .before .before .before .before .before .before .args .options) (length (c .before .before .before .before .before .before .before .before .args .owners .now)) (length (c .before .before .before .before .before .before .before .before .args .work .now))) (sym (c .before .before .before .early-cause .ensures) ∙ c .before .before .if1 .left))
+work-need-requires c κs = rw (c .before .vertex-count .ensures, c .index .ensures) (whole-limits (call (c .before .before .before .before .before .before .before .before)) (passes (c .before .before)))
 
 sub-divide : tie.Need-sub-divide
 sub-divide c = search needs
@@ -32,10 +51,18 @@ part-divide-start : tie.Need-part-divide-start
 part-divide-start c = search needs
 
 part-divide-end : tie.Need-part-divide-end
-part-divide-end c = omega (arith, whole-fits (callOf (c .before .before .before .before .before .before .before .before .before .before .args .offsets .now) (c .before .before .before .before .before .before .before .before .before .before .args .neighbors .now) (c .before .before .before .before .before .before .before .before .before .before .args .ranks) (c .before .before .before .before .before .before .before .before .before .before .args .options) (length (c .before .before .before .before .before .before .before .before .before .before .args .owners .now)) (length (c .before .before .before .before .before .before .before .before .before .before .args .work .now))) (sym (c .before .before .before .before .before .early-cause .ensures) ∙ c .before .before .before .before .if1 .left) (c .before .before .before .before .before .before .before .before .before .before .args .work .now) refl (c .before .work-need .result) (c .before .work-need .ensures ∙ ap (λ (x : ℕ). workNeed x (length (c .before .before .before .before .before .before .before .before .before .before .args .neighbors .now)) (c .before .before .index .result) (c .before .before .before .before .before .before .before .before .before .before .args .options .«max_levels»)) (c .before .before .before .vertex-count .ensures) ∙ ap (λ (x : ℕ). workNeed (vertexCount (c .before .before .before .before .before .before .before .before .before .before .args .offsets .now)) (length (c .before .before .before .before .before .before .before .before .before .before .args .neighbors .now)) x (c .before .before .before .before .before .before .before .before .before .before .args .options .«max_levels»)) (c .before .before .index .ensures)))
+part-divide-end c =
+    let n = c .before in
+    let e = n .before .before .before in
+    let s = e .before .before .before .before .before .before in
+    omega (arith, whole-fits (call s) (passes e) (s .args .work .now) refl _ (need-is n))
 
 divide-requires : tie.Need-divide-requires
-divide-requires c κs = whole-divisible (callOf (c .before .before .before .before .before .before .before .before .before .before .before .args .offsets .now) (c .before .before .before .before .before .before .before .before .before .before .before .args .neighbors .now) (c .before .before .before .before .before .before .before .before .before .before .before .args .ranks) (c .before .before .before .before .before .before .before .before .before .before .before .args .options) (length (c .before .before .before .before .before .before .before .before .before .before .before .args .owners .now)) (length (c .before .before .before .before .before .before .before .before .before .before .before .args .work .now))) (sym (c .before .before .before .before .before .before .early-cause .ensures) ∙ c .before .before .before .before .before .if1 .left) (c .before .before .before .before .before .before .before .before .before .before .before .args .work .now) refl (c .before .before .work-need .result) (c .before .before .work-need .ensures ∙ ap (λ (x : ℕ). workNeed x (length (c .before .before .before .before .before .before .before .before .before .before .before .args .neighbors .now)) (c .before .before .before .index .result) (c .before .before .before .before .before .before .before .before .before .before .before .args .options .«max_levels»)) (c .before .before .before .before .vertex-count .ensures) ∙ ap (λ (x : ℕ). workNeed (vertexCount (c .before .before .before .before .before .before .before .before .before .before .before .args .offsets .now)) (length (c .before .before .before .before .before .before .before .before .before .before .before .args .neighbors .now)) x (c .before .before .before .before .before .before .before .before .before .before .before .args .options .«max_levels»)) (c .before .before .before .index .ensures))
+divide-requires c κs =
+    let n = c .before .before in
+    let e = n .before .before .before in
+    let s = e .before .before .before .before .before .before in
+    whole-divisible (call s) (passes e) (s .args .work .now) refl _ (need-is n)
 
 fill-part-requires : tie.Need-fill-part-requires
 fill-part-requires c κs = search needs
@@ -47,7 +74,12 @@ same-length-2 : tie.Need-same-length-2
 same-length-2 c = search needs
 
 returns-2 : tie.Need-returns-2
-returns-2 c = whole-partitioned (callOf (c .before .before .before .before .before .before .before .before .before .before .before .before .before .before .before .before .before .before .before .before .args .offsets .now) (c .before .before .before .before .before .before .before .before .before .before .before .before .before .before .before .before .before .before .before .before .args .neighbors .now) (c .before .before .before .before .before .before .before .before .before .before .before .before .before .before .before .before .before .before .before .before .args .ranks) (c .before .before .before .before .before .before .before .before .before .before .before .before .before .before .before .before .before .before .before .before .args .options) (length (c .before .before .before .before .before .before .before .before .before .before .before .before .before .before .before .before .before .before .before .before .args .owners .now)) (length (c .before .before .before .before .before .before .before .before .before .before .before .before .before .before .before .before .before .before .before .before .args .work .now))) (sym (c .before .before .before .before .before .before .before .before .before .before .before .before .before .before .before .early-cause .ensures) ∙ c .before .before .before .before .before .before .before .before .before .before .before .before .before .before .if1 .left) (c .before .before .before .before .before .before .before .before .before .before .before .before .before .before .before .before .before .before .before .before .args .work .now) refl (c .before .before .before .before .before .before .before .before .before .before .before .work-need .result) (c .before .before .before .before .before .before .before .before .before .before .before .work-need .ensures ∙ ap (λ (x : ℕ). workNeed x (length (c .before .before .before .before .before .before .before .before .before .before .before .before .before .before .before .before .before .before .before .before .args .neighbors .now)) (c .before .before .before .before .before .before .before .before .before .before .before .before .index .result) (c .before .before .before .before .before .before .before .before .before .before .before .before .before .before .before .before .before .before .before .before .args .options .«max_levels»)) (c .before .before .before .before .before .before .before .before .before .before .before .before .before .vertex-count .ensures) ∙ ap (λ (x : ℕ). workNeed (vertexCount (c .before .before .before .before .before .before .before .before .before .before .before .before .before .before .before .before .before .before .before .before .args .offsets .now)) (length (c .before .before .before .before .before .before .before .before .before .before .before .before .before .before .before .before .before .before .before .before .args .neighbors .now)) x (c .before .before .before .before .before .before .before .before .before .before .before .before .before .before .before .before .before .before .before .before .args .options .«max_levels»)) (c .before .before .before .before .before .before .before .before .before .before .before .before .index .ensures)) _ _ _ _ (c .before .before .fill-part .ensures ∙ whole-zeroed (callOf (c .before .before .before .before .before .before .before .before .before .before .before .before .before .before .before .before .before .before .before .before .args .offsets .now) (c .before .before .before .before .before .before .before .before .before .before .before .before .before .before .before .before .before .before .before .before .args .neighbors .now) (c .before .before .before .before .before .before .before .before .before .before .before .before .before .before .before .before .before .before .before .before .args .ranks) (c .before .before .before .before .before .before .before .before .before .before .before .before .before .before .before .before .before .before .before .before .args .options) (length (c .before .before .before .before .before .before .before .before .before .before .before .before .before .before .before .before .before .before .before .before .args .owners .now)) (length (c .before .before .before .before .before .before .before .before .before .before .before .before .before .before .before .before .before .before .before .before .args .work .now))) (sym (c .before .before .before .before .before .before .before .before .before .before .before .before .before .before .before .early-cause .ensures) ∙ c .before .before .before .before .before .before .before .before .before .before .before .before .before .before .if1 .left) (c .before .before .before .before .before .before .before .before .before .before .before .before .before .before .before .before .before .before .before .before .args .work .now) refl (c .before .before .before .before .before .before .before .before .before .before .before .work-need .result) (c .before .before .before .before .before .before .before .before .before .before .before .work-need .ensures ∙ ap (λ (x : ℕ). workNeed x (length (c .before .before .before .before .before .before .before .before .before .before .before .before .before .before .before .before .before .before .before .before .args .neighbors .now)) (c .before .before .before .before .before .before .before .before .before .before .before .before .index .result) (c .before .before .before .before .before .before .before .before .before .before .before .before .before .before .before .before .before .before .before .before .args .options .«max_levels»)) (c .before .before .before .before .before .before .before .before .before .before .before .before .before .vertex-count .ensures) ∙ ap (λ (x : ℕ). workNeed (vertexCount (c .before .before .before .before .before .before .before .before .before .before .before .before .before .before .before .before .before .before .before .before .args .offsets .now)) (length (c .before .before .before .before .before .before .before .before .before .before .before .before .before .before .before .before .before .before .before .before .args .neighbors .now)) x (c .before .before .before .before .before .before .before .before .before .before .before .before .before .before .before .before .before .before .before .before .args .options .«max_levels»)) (c .before .before .before .before .before .before .before .before .before .before .before .before .index .ensures)) (c .before .before .before .before .before .before .before .before .divide .last .1 .1 .1 .1 .1 .0) (c .before .before .before .before .before .before .before .before .divide .kept .1 .1 .1 .1 .1 .0)) (c .before .before .before .before .before .before .before .before .divide .ensures)
+returns-2 c =
+    let n = c .before .before .before .before .before .before .before .before .before .before .before in
+    let e = n .before .before .before in
+    let s = e .before .before .before .before .before .before in
+    let d = c .before .before .before .before .before .before .before .before .divide in
+    whole-partitioned (call s) (passes e) (s .args .work .now) refl _ (need-is n) _ _ _ _ (c .before .before .fill-part .ensures ∙ whole-zeroed (call s) (passes e) (s .args .work .now) refl _ (need-is n) (d .last .1 .1 .1 .1 .1 .0) (d .kept .1 .1 .1 .1 .1 .0)) (d .ensures)
 
 pub abtm-multilevel-partition-spec : {M : Type 1} → statement M
 abtm-multilevel-partition-spec =

@@ -1,29 +1,50 @@
+-- The site is laid, its levels are solved, and the owners are written if none refused. Assumes nothing.
 use Prim.Native.Nat.{ℕ}
-use mathlib.Core.Path.{_∙_, ap}
+use mathlib.Core.Path.{_≡_, _∙_, ap}
 use native.Mathlib.Omega.{arith}
 use lib.ListN.{length}
-use Rattle.multilevel.specs.Causes.{callOf}
+use Rattle.multilevel.specs.Causes.{Call, callOf}
 use Rattle.multilevel.specs.Room.{levelAt}
-use Rattle.multilevel.specs.DriverCode.{rulesWith}
+use Rattle.multilevel.specs.DriverCode.{rulesWith, rulesFor, siteLevel}
 use Rattle.multilevel.proofs.EndLaws.{site-limits, code-fits, code-site, code-refusal, rooms-small, code-finishing, code-room, code-divided}
 use borrow.Author.Needs.{needs}
 use Rattle.multilevel.proofs.driver.divide.Statement.{statement}
 use Rattle.multilevel.proofs.driver.divide.Tie as tie
 
+-- the call, and that the rules and the finest level are its own
+abbrev call : tie.Start → Call
+call s = let a = s .args in callOf (a .offsets .now) (a .neighbors .now) (a .ranks) (a .options) (length (a .owners .now)) (length (a .work .now))
+
+rules-are : (c : tie.After-rules-of) → c .rules-of .result ≡ rulesFor (call (c .before .before .before .before .before .before))
+rules-are c =
+    let a = c .before .before .before .before .before .before .args in
+    c .rules-of .ensures ∙ ap (λ (x : ℕ). rulesWith x (length (a .neighbors .now)) (a .ranks) (a .options)) (c .before .vertex-count .ensures)
+
+level-is : (c : tie.After-level-at) → c .level-at .result ≡ siteLevel (call (c .before .before .before .before .before .before .before))
+level-is c = c .level-at .ensures ∙ ap (λ (x : ℕ). levelAt x (length (c .before .before .before .before .before .before .before .args .neighbors .now)) 0) (c .before .before .vertex-count .ensures)
+
 vertex-count-requires : tie.Need-vertex-count-requires
 vertex-count-requires c κs = search needs
 
 rules-of-requires : tie.Need-rules-of-requires
-rules-of-requires c κs = rw (c .vertex-count .ensures) (site-limits (callOf (c .before .before .before .before .before .args .offsets .now) (c .before .before .before .before .before .args .neighbors .now) (c .before .before .before .before .before .args .ranks) (c .before .before .before .before .before .args .options) (length (c .before .before .before .before .before .args .owners .now)) (length (c .before .before .before .before .before .args .work .now))) (c .before .before .before .before .before .args .work .now) (c .before .before .before .before .before .pre))
+rules-of-requires c κs = rw (c .vertex-count .ensures) (site-limits (call (c .before .before .before .before .before)) (c .before .before .before .before .before .args .work .now) (c .before .before .before .before .before .pre))
 
 level-at-requires : tie.Need-level-at-requires
 level-at-requires c κs = search needs
 
 lay-site-requires : tie.Need-lay-site-requires
-lay-site-requires c κs = code-fits (callOf (c .before .before .before .before .before .before .before .before .args .offsets .now) (c .before .before .before .before .before .before .before .before .args .neighbors .now) (c .before .before .before .before .before .before .before .before .args .ranks) (c .before .before .before .before .before .before .before .before .args .options) (length (c .before .before .before .before .before .before .before .before .args .owners .now)) (length (c .before .before .before .before .before .before .before .before .args .work .now))) (c .before .before .before .before .before .before .before .before .args .work .now) (c .before .before .before .before .before .before .before .before .pre) (c .before .before .rules-of .result) (c .before .before .rules-of .ensures ∙ ap (λ (x : ℕ). rulesWith x (length (c .before .before .before .before .before .before .before .before .args .neighbors .now)) (c .before .before .before .before .before .before .before .before .args .ranks) (c .before .before .before .before .before .before .before .before .args .options)) (c .before .before .before .vertex-count .ensures)) (c .before .level-at .result) (c .before .level-at .ensures ∙ ap (λ (x : ℕ). levelAt x (length (c .before .before .before .before .before .before .before .before .args .neighbors .now)) 0) (c .before .before .before .vertex-count .ensures))
+lay-site-requires c κs =
+    let l = c .before in
+    let r = l .before in
+    let s = r .before .before .before .before .before .before in
+    code-fits (call s) (s .args .work .now) (s .pre) _ (rules-are r) _ (level-is l)
 
 solve-requires : tie.Need-solve-requires
-solve-requires c κs = code-site (callOf (c .before .before .before .before .before .before .before .before .before .before .before .before .args .offsets .now) (c .before .before .before .before .before .before .before .before .before .before .before .before .args .neighbors .now) (c .before .before .before .before .before .before .before .before .before .before .before .before .args .ranks) (c .before .before .before .before .before .before .before .before .before .before .before .before .args .options) (length (c .before .before .before .before .before .before .before .before .before .before .before .before .args .owners .now)) (length (c .before .before .before .before .before .before .before .before .before .before .before .before .args .work .now))) (c .before .before .before .before .before .before .before .before .before .before .before .before .args .work .now) (c .before .before .before .before .before .before .before .before .before .before .before .before .pre) (c .before .before .before .before .before .before .rules-of .result) (c .before .before .before .before .before .before .rules-of .ensures ∙ ap (λ (x : ℕ). rulesWith x (length (c .before .before .before .before .before .before .before .before .before .before .before .before .args .neighbors .now)) (c .before .before .before .before .before .before .before .before .before .before .before .before .args .ranks) (c .before .before .before .before .before .before .before .before .before .before .before .before .args .options)) (c .before .before .before .before .before .before .before .vertex-count .ensures)) (c .before .before .before .before .before .level-at .result) (c .before .before .before .before .before .level-at .ensures ∙ ap (λ (x : ℕ). levelAt x (length (c .before .before .before .before .before .before .before .before .before .before .before .before .args .neighbors .now)) 0) (c .before .before .before .before .before .before .before .vertex-count .ensures)) _ (c .before .before .before .lay-site .ensures)
+solve-requires c κs =
+    let l = c .before .before .before .before .before in
+    let r = l .before in
+    let s = r .before .before .before .before .before .before in
+    code-site (call s) (s .args .work .now) (s .pre) _ (rules-are r) _ (level-is l) _ (c .before .before .before .lay-site .ensures)
 
 enum-known-a : tie.Need-enum-known-a
 enum-known-a c = search needs
@@ -35,28 +56,56 @@ same-length : tie.Need-same-length
 same-length c = search needs
 
 returns : tie.Need-returns
-returns c = code-refusal (callOf (c .before .before .before .before .before .before .before .before .before .before .before .before .before .before .before .before .before .args .offsets .now) (c .before .before .before .before .before .before .before .before .before .before .before .before .before .before .before .before .before .args .neighbors .now) (c .before .before .before .before .before .before .before .before .before .before .before .before .before .before .before .before .before .args .ranks) (c .before .before .before .before .before .before .before .before .before .before .before .before .before .before .before .before .before .args .options) (length (c .before .before .before .before .before .before .before .before .before .before .before .before .before .before .before .before .before .args .owners .now)) (length (c .before .before .before .before .before .before .before .before .before .before .before .before .before .before .before .before .before .args .work .now))) (c .before .before .before .before .before .before .before .before .before .before .before .before .before .before .before .before .before .args .work .now) (c .before .before .before .before .before .before .before .before .before .before .before .before .before .before .before .before .before .pre) (c .before .before .before .before .before .before .before .before .before .before .before .rules-of .result) (c .before .before .before .before .before .before .before .before .before .before .before .rules-of .ensures ∙ ap (λ (x : ℕ). rulesWith x (length (c .before .before .before .before .before .before .before .before .before .before .before .before .before .before .before .before .before .args .neighbors .now)) (c .before .before .before .before .before .before .before .before .before .before .before .before .before .before .before .before .before .args .ranks) (c .before .before .before .before .before .before .before .before .before .before .before .before .before .before .before .before .before .args .options)) (c .before .before .before .before .before .before .before .before .before .before .before .before .vertex-count .ensures)) (c .before .before .before .before .before .before .before .before .before .before .level-at .result) (c .before .before .before .before .before .before .before .before .before .before .level-at .ensures ∙ ap (λ (x : ℕ). levelAt x (length (c .before .before .before .before .before .before .before .before .before .before .before .before .before .before .before .before .before .args .neighbors .now)) 0) (c .before .before .before .before .before .before .before .before .before .before .before .before .vertex-count .ensures)) _ (c .before .before .before .before .before .before .before .before .lay-site .ensures) _ _ (c .before .before .before .before .solve .ensures) _ _ (c .enum-told .given .1)
+returns c =
+    let l = c .before .before .before .before .before .before .before .before .before .before in
+    let r = l .before in
+    let s = r .before .before .before .before .before .before in
+    code-refusal (call s) (s .args .work .now) (s .pre) _ (rules-are r) _ (level-is l) _ (c .before .before .before .before .before .before .before .before .lay-site .ensures) _ _ (c .before .before .before .before .solve .ensures) _ _ (c .enum-told .given .1)
 
 mul-lists : tie.Need-mul-lists
-mul-lists c = omega (arith, rooms-small (callOf (c .before .before .before .before .before .before .before .before .before .before .before .before .before .before .before .before .before .before .before .args .offsets .now) (c .before .before .before .before .before .before .before .before .before .before .before .before .before .before .before .before .before .before .before .args .neighbors .now) (c .before .before .before .before .before .before .before .before .before .before .before .before .before .before .before .before .before .before .before .args .ranks) (c .before .before .before .before .before .before .before .before .before .before .before .before .before .before .before .before .before .before .before .args .options) (length (c .before .before .before .before .before .before .before .before .before .before .before .before .before .before .before .before .before .before .before .args .owners .now)) (length (c .before .before .before .before .before .before .before .before .before .before .before .before .before .before .before .before .before .before .before .args .work .now))) (c .before .before .before .before .before .before .before .before .before .before .before .before .before .before .before .before .before .before .before .args .work .now) (c .before .before .before .before .before .before .before .before .before .before .before .before .before .before .before .before .before .before .before .pre) (c .before .before .before .before .before .before .before .before .before .before .before .before .before .rules-of .result) (c .before .before .before .before .before .before .before .before .before .before .before .before .before .rules-of .ensures ∙ ap (λ (x : ℕ). rulesWith x (length (c .before .before .before .before .before .before .before .before .before .before .before .before .before .before .before .before .before .before .before .args .neighbors .now)) (c .before .before .before .before .before .before .before .before .before .before .before .before .before .before .before .before .before .before .before .args .ranks) (c .before .before .before .before .before .before .before .before .before .before .before .before .before .before .before .before .before .before .before .args .options)) (c .before .before .before .before .before .before .before .before .before .before .before .before .before .before .vertex-count .ensures)) (c .before .before .before .before .before .before .before .before .before .before .before .before .level-at .result) (c .before .before .before .before .before .before .before .before .before .before .before .before .level-at .ensures ∙ ap (λ (x : ℕ). levelAt x (length (c .before .before .before .before .before .before .before .before .before .before .before .before .before .before .before .before .before .before .before .args .neighbors .now)) 0) (c .before .before .before .before .before .before .before .before .before .before .before .before .before .before .vertex-count .ensures)), c .before .before .before .before .before .before .before .before .before .before .before .before .before .before .before .before .before .before .before .good)
+mul-lists c =
+    let l = c .before .before .before .before .before .before .before .before .before .before .before .before in
+    let r = l .before in
+    let s = r .before .before .before .before .before .before in
+    omega (arith, rooms-small (call s) (s .args .work .now) (s .pre) _ (rules-are r) _ (level-is l), s .good)
 
 add-lists : tie.Need-add-lists
-add-lists c = omega (arith, rooms-small (callOf (c .before .before .before .before .before .before .before .before .before .before .before .before .before .before .before .before .before .before .before .before .args .offsets .now) (c .before .before .before .before .before .before .before .before .before .before .before .before .before .before .before .before .before .before .before .before .args .neighbors .now) (c .before .before .before .before .before .before .before .before .before .before .before .before .before .before .before .before .before .before .before .before .args .ranks) (c .before .before .before .before .before .before .before .before .before .before .before .before .before .before .before .before .before .before .before .before .args .options) (length (c .before .before .before .before .before .before .before .before .before .before .before .before .before .before .before .before .before .before .before .before .args .owners .now)) (length (c .before .before .before .before .before .before .before .before .before .before .before .before .before .before .before .before .before .before .before .before .args .work .now))) (c .before .before .before .before .before .before .before .before .before .before .before .before .before .before .before .before .before .before .before .before .args .work .now) (c .before .before .before .before .before .before .before .before .before .before .before .before .before .before .before .before .before .before .before .before .pre) (c .before .before .before .before .before .before .before .before .before .before .before .before .before .before .rules-of .result) (c .before .before .before .before .before .before .before .before .before .before .before .before .before .before .rules-of .ensures ∙ ap (λ (x : ℕ). rulesWith x (length (c .before .before .before .before .before .before .before .before .before .before .before .before .before .before .before .before .before .before .before .before .args .neighbors .now)) (c .before .before .before .before .before .before .before .before .before .before .before .before .before .before .before .before .before .before .before .before .args .ranks) (c .before .before .before .before .before .before .before .before .before .before .before .before .before .before .before .before .before .before .before .before .args .options)) (c .before .before .before .before .before .before .before .before .before .before .before .before .before .before .before .vertex-count .ensures)) (c .before .before .before .before .before .before .before .before .before .before .before .before .before .level-at .result) (c .before .before .before .before .before .before .before .before .before .before .before .before .before .level-at .ensures ∙ ap (λ (x : ℕ). levelAt x (length (c .before .before .before .before .before .before .before .before .before .before .before .before .before .before .before .before .before .before .before .before .args .neighbors .now)) 0) (c .before .before .before .before .before .before .before .before .before .before .before .before .before .before .before .vertex-count .ensures)), c .before .before .before .before .before .before .before .before .before .before .before .before .before .before .before .before .before .before .before .before .good)
+add-lists c =
+    let l = c .before .before .before .before .before .before .before .before .before .before .before .before .before in
+    let r = l .before in
+    let s = r .before .before .before .before .before .before in
+    omega (arith, rooms-small (call s) (s .args .work .now) (s .pre) _ (rules-are r) _ (level-is l), s .good)
 
 finish-requires : tie.Need-finish-requires
-finish-requires c κs = code-finishing (callOf (c .before .before .before .before .before .before .before .before .before .before .before .before .before .before .before .before .before .before .before .before .before .args .offsets .now) (c .before .before .before .before .before .before .before .before .before .before .before .before .before .before .before .before .before .before .before .before .before .args .neighbors .now) (c .before .before .before .before .before .before .before .before .before .before .before .before .before .before .before .before .before .before .before .before .before .args .ranks) (c .before .before .before .before .before .before .before .before .before .before .before .before .before .before .before .before .before .before .before .before .before .args .options) (length (c .before .before .before .before .before .before .before .before .before .before .before .before .before .before .before .before .before .before .before .before .before .args .owners .now)) (length (c .before .before .before .before .before .before .before .before .before .before .before .before .before .before .before .before .before .before .before .before .before .args .work .now))) (c .before .before .before .before .before .before .before .before .before .before .before .before .before .before .before .before .before .before .before .before .before .args .work .now) (c .before .before .before .before .before .before .before .before .before .before .before .before .before .before .before .before .before .before .before .before .before .pre) (c .before .before .before .before .before .before .before .before .before .before .before .before .before .before .before .rules-of .result) (c .before .before .before .before .before .before .before .before .before .before .before .before .before .before .before .rules-of .ensures ∙ ap (λ (x : ℕ). rulesWith x (length (c .before .before .before .before .before .before .before .before .before .before .before .before .before .before .before .before .before .before .before .before .before .args .neighbors .now)) (c .before .before .before .before .before .before .before .before .before .before .before .before .before .before .before .before .before .before .before .before .before .args .ranks) (c .before .before .before .before .before .before .before .before .before .before .before .before .before .before .before .before .before .before .before .before .before .args .options)) (c .before .before .before .before .before .before .before .before .before .before .before .before .before .before .before .before .vertex-count .ensures)) (c .before .before .before .before .before .before .before .before .before .before .before .before .before .before .level-at .result) (c .before .before .before .before .before .before .before .before .before .before .before .before .before .before .level-at .ensures ∙ ap (λ (x : ℕ). levelAt x (length (c .before .before .before .before .before .before .before .before .before .before .before .before .before .before .before .before .before .before .before .before .before .args .neighbors .now)) 0) (c .before .before .before .before .before .before .before .before .before .before .before .before .before .before .before .before .vertex-count .ensures)) _ (c .before .before .before .before .before .before .before .before .before .before .before .before .lay-site .ensures) _ _ (c .before .before .before .before .before .before .before .before .solve .ensures) _ (c .before .before .before .before .a .given .1)
+finish-requires c κs =
+    let l = c .before .before .before .before .before .before .before .before .before .before .before .before .before .before in
+    let r = l .before in
+    let s = r .before .before .before .before .before .before in
+    code-finishing (call s) (s .args .work .now) (s .pre) _ (rules-are r) _ (level-is l) _ (c .before .before .before .before .before .before .before .before .before .before .before .before .lay-site .ensures) _ _ (c .before .before .before .before .before .before .before .before .solve .ensures) _ (c .before .before .before .before .a .given .1)
 
 write-owners-requires : tie.Need-write-owners-requires
-write-owners-requires c κs = code-room (callOf (c .before .before .before .before .before .before .before .before .before .before .before .before .before .before .before .before .before .before .before .before .before .before .before .before .before .before .args .offsets .now) (c .before .before .before .before .before .before .before .before .before .before .before .before .before .before .before .before .before .before .before .before .before .before .before .before .before .before .args .neighbors .now) (c .before .before .before .before .before .before .before .before .before .before .before .before .before .before .before .before .before .before .before .before .before .before .before .before .before .before .args .ranks) (c .before .before .before .before .before .before .before .before .before .before .before .before .before .before .before .before .before .before .before .before .before .before .before .before .before .before .args .options) (length (c .before .before .before .before .before .before .before .before .before .before .before .before .before .before .before .before .before .before .before .before .before .before .before .before .before .before .args .owners .now)) (length (c .before .before .before .before .before .before .before .before .before .before .before .before .before .before .before .before .before .before .before .before .before .before .before .before .before .before .args .work .now))) (c .before .before .before .before .before .before .before .before .before .before .before .before .before .before .before .before .before .before .before .before .before .before .before .before .before .before .args .work .now) (c .before .before .before .before .before .before .before .before .before .before .before .before .before .before .before .before .before .before .before .before .before .before .before .before .before .before .pre) (c .before .before .before .before .before .before .before .before .before .before .before .before .before .before .before .before .before .before .before .before .rules-of .result) (c .before .before .before .before .before .before .before .before .before .before .before .before .before .before .before .before .before .before .before .before .rules-of .ensures ∙ ap (λ (x : ℕ). rulesWith x (length (c .before .before .before .before .before .before .before .before .before .before .before .before .before .before .before .before .before .before .before .before .before .before .before .before .before .before .args .neighbors .now)) (c .before .before .before .before .before .before .before .before .before .before .before .before .before .before .before .before .before .before .before .before .before .before .before .before .before .before .args .ranks) (c .before .before .before .before .before .before .before .before .before .before .before .before .before .before .before .before .before .before .before .before .before .before .before .before .before .before .args .options)) (c .before .before .before .before .before .before .before .before .before .before .before .before .before .before .before .before .before .before .before .before .before .vertex-count .ensures)) (c .before .before .before .before .before .before .before .before .before .before .before .before .before .before .before .before .before .before .before .level-at .result) (c .before .before .before .before .before .before .before .before .before .before .before .before .before .before .before .before .before .before .before .level-at .ensures ∙ ap (λ (x : ℕ). levelAt x (length (c .before .before .before .before .before .before .before .before .before .before .before .before .before .before .before .before .before .before .before .before .before .before .before .before .before .before .args .neighbors .now)) 0) (c .before .before .before .before .before .before .before .before .before .before .before .before .before .before .before .before .before .before .before .before .before .vertex-count .ensures)) _ (c .before .before .before .before .before .before .before .before .before .before .before .before .before .before .before .before .before .lay-site .ensures) _ _ (c .before .before .before .before .before .before .before .before .before .before .before .before .before .solve .ensures) _ (c .before .before .before .before .before .before .before .before .before .a .given .1) _ _ (c .before .before .before .before .finish .ensures)
+write-owners-requires c κs =
+    let l = c .before .before .before .before .before .before .before .before .before .before .before .before .before .before .before .before .before .before .before in
+    let r = l .before in
+    let s = r .before .before .before .before .before .before in
+    code-room (call s) (s .args .work .now) (s .pre) _ (rules-are r) _ (level-is l) _ (c .before .before .before .before .before .before .before .before .before .before .before .before .before .before .before .before .before .lay-site .ensures) _ _ (c .before .before .before .before .before .before .before .before .before .before .before .before .before .solve .ensures) _ (c .before .before .before .before .before .before .before .before .before .a .given .1) _ _ (c .before .before .before .before .finish .ensures)
 
 same-length-2 : tie.Need-same-length-2
 same-length-2 c = search needs
 
 same-length-3 : tie.Need-same-length-3
-same-length-3 c = c .before .before .before .before .before .before .before .finish .ensures .same-length ∙ c .before .before .before .before .before .before .before .before .before .before .before .before .before .before .before .before .solve .ensures .kept .same-length ∙ c .before .before .before .before .before .before .before .before .before .before .before .before .before .before .before .before .before .before .before .before .lay-site .ensures .frame .same-length
+same-length-3 c =
+    let c7 = c .before .before .before .before .before .before .before in
+    let c16 = c7 .before .before .before .before .before .before .before .before .before in
+    let c20 = c16 .before .before .before .before in
+    c7 .finish .ensures .same-length ∙ c16 .solve .ensures .kept .same-length ∙ c20 .lay-site .ensures .frame .same-length
 
 returns-2 : tie.Need-returns-2
-returns-2 c = code-divided (callOf (c .before .before .before .before .before .before .before .before .before .before .before .before .before .before .before .before .before .before .before .before .before .before .before .before .before .before .before .before .before .args .offsets .now) (c .before .before .before .before .before .before .before .before .before .before .before .before .before .before .before .before .before .before .before .before .before .before .before .before .before .before .before .before .before .args .neighbors .now) (c .before .before .before .before .before .before .before .before .before .before .before .before .before .before .before .before .before .before .before .before .before .before .before .before .before .before .before .before .before .args .ranks) (c .before .before .before .before .before .before .before .before .before .before .before .before .before .before .before .before .before .before .before .before .before .before .before .before .before .before .before .before .before .args .options) (length (c .before .before .before .before .before .before .before .before .before .before .before .before .before .before .before .before .before .before .before .before .before .before .before .before .before .before .before .before .before .args .owners .now)) (length (c .before .before .before .before .before .before .before .before .before .before .before .before .before .before .before .before .before .before .before .before .before .before .before .before .before .before .before .before .before .args .work .now))) (c .before .before .before .before .before .before .before .before .before .before .before .before .before .before .before .before .before .before .before .before .before .before .before .before .before .before .before .before .before .args .work .now) (c .before .before .before .before .before .before .before .before .before .before .before .before .before .before .before .before .before .before .before .before .before .before .before .before .before .before .before .before .before .pre) (c .before .before .before .before .before .before .before .before .before .before .before .before .before .before .before .before .before .before .before .before .before .before .before .rules-of .result) (c .before .before .before .before .before .before .before .before .before .before .before .before .before .before .before .before .before .before .before .before .before .before .before .rules-of .ensures ∙ ap (λ (x : ℕ). rulesWith x (length (c .before .before .before .before .before .before .before .before .before .before .before .before .before .before .before .before .before .before .before .before .before .before .before .before .before .before .before .before .before .args .neighbors .now)) (c .before .before .before .before .before .before .before .before .before .before .before .before .before .before .before .before .before .before .before .before .before .before .before .before .before .before .before .before .before .args .ranks) (c .before .before .before .before .before .before .before .before .before .before .before .before .before .before .before .before .before .before .before .before .before .before .before .before .before .before .before .before .before .args .options)) (c .before .before .before .before .before .before .before .before .before .before .before .before .before .before .before .before .before .before .before .before .before .before .before .before .vertex-count .ensures)) (c .before .before .before .before .before .before .before .before .before .before .before .before .before .before .before .before .before .before .before .before .before .before .level-at .result) (c .before .before .before .before .before .before .before .before .before .before .before .before .before .before .before .before .before .before .before .before .before .before .level-at .ensures ∙ ap (λ (x : ℕ). levelAt x (length (c .before .before .before .before .before .before .before .before .before .before .before .before .before .before .before .before .before .before .before .before .before .before .before .before .before .before .before .before .before .args .neighbors .now)) 0) (c .before .before .before .before .before .before .before .before .before .before .before .before .before .before .before .before .before .before .before .before .before .before .before .before .vertex-count .ensures)) _ (c .before .before .before .before .before .before .before .before .before .before .before .before .before .before .before .before .before .before .before .before .lay-site .ensures) _ _ (c .before .before .before .before .before .before .before .before .before .before .before .before .before .before .before .before .solve .ensures) _ (c .before .before .before .before .before .before .before .before .before .before .before .before .a .given .1) _ _ (c .before .before .before .before .before .before .before .finish .ensures) _ _ (c .before .before .write-owners .ensures)
+returns-2 c =
+    let l = c .before .before .before .before .before .before .before .before .before .before .before .before .before .before .before .before .before .before .before .before .before .before in
+    let r = l .before in
+    let s = r .before .before .before .before .before .before in
+    code-divided (call s) (s .args .work .now) (s .pre) _ (rules-are r) _ (level-is l) _ (c .before .before .before .before .before .before .before .before .before .before .before .before .before .before .before .before .before .before .before .before .lay-site .ensures) _ _ (c .before .before .before .before .before .before .before .before .before .before .before .before .before .before .before .before .solve .ensures) _ (c .before .before .before .before .before .before .before .before .before .before .before .before .a .given .1) _ _ (c .before .before .before .before .before .before .before .finish .ensures) _ _ (c .before .before .write-owners .ensures)
 
 pub divide-spec : {M : Type 1} → statement M
 divide-spec =

@@ -1,3 +1,4 @@
+-- Swaps, and measures of what they leave. Assumes nothing.
 use Rattle.multilevel.proofs.EndLaws.{measurable, finished}
 use borrow.Author.Needs.{needs}
 use Rattle.multilevel.proofs.driver.finish.Statement.{statement}
@@ -10,7 +11,12 @@ refine-fine-pair-swaps-requires : tie.Need-refine-fine-pair-swaps-requires
 refine-fine-pair-swaps-requires c κs = search needs
 
 measure-level-requires : tie.Need-measure-level-requires
-measure-level-requires c κs = measurable (c .before .before .before .before .before .before .before .before .args .work .now) (c .before .before .before .before .before .before .before .before .args .l) (c .before .before .before .before .before .before .before .before .args .q) (c .before .before .before .before .before .before .before .before .args .lists) (c .before .before .before .before .before .before .before .before .pre) _ _ _ (c .before .before .before .before .swap-passes .ensures) (c .before .before .before .refine-fine-pair-swaps .ensures)
+measure-level-requires c κs =
+    let c3 = c .before .before .before in
+    let c4 = c3 .before in
+    let c8 = c4 .before .before .before .before in
+    let a = c8 .args in
+    measurable (a .work .now) (a .l) (a .q) (a .lists) (c8 .pre) _ _ _ (c4 .swap-passes .ensures) (c3 .refine-fine-pair-swaps .ensures)
 
 added-moves-requires : tie.Need-added-moves-requires
 added-moves-requires c κs = search needs
@@ -22,7 +28,13 @@ same-length : tie.Need-same-length
 same-length c = search needs
 
 returns : tie.Need-returns
-returns c = finished (c .before .before .before .before .before .before .before .before .before .before .before .before .before .args .work .now) (c .before .before .before .before .before .before .before .before .before .before .before .before .before .args .l) (c .before .before .before .before .before .before .before .before .before .before .before .before .before .args .q) (c .before .before .before .before .before .before .before .before .before .before .before .before .before .args .lists) (c .before .before .before .before .before .before .before .before .before .before .before .before .before .pre) _ _ _ (c .before .before .before .before .before .before .before .before .before .swap-passes .ensures) (c .before .before .before .before .before .before .before .before .refine-fine-pair-swaps .ensures) _ (c .before .before .before .before .measure-level .result) (c .before .before .before .before .before .before .before .before .before .before .before .before .before .args .s) (c .before .added-moves .result) (c .measured .result) (c .before .before .before .before .measure-level .ensures) (c .before .added-moves .ensures) (c .measured .ensures)
+returns c =
+    let c4 = c .before .before .before .before in
+    let c8 = c4 .before .before .before .before in
+    let c9 = c8 .before in
+    let c13 = c9 .before .before .before .before in
+    let a = c13 .args in
+    finished (a .work .now) (a .l) (a .q) (a .lists) (c13 .pre) _ _ _ (c9 .swap-passes .ensures) (c8 .refine-fine-pair-swaps .ensures) _ (c4 .measure-level .result) (a .s) (c .before .added-moves .result) (c .measured .result) (c4 .measure-level .ensures) (c .before .added-moves .ensures) (c .measured .ensures)
 
 pub finish-spec : {M : Type 1} → statement M
 finish-spec =

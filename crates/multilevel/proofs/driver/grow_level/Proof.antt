@@ -1,3 +1,4 @@
+-- Growth, and moves if it did not refuse. Assumes nothing.
 use mathlib.Core.Path.{_∙_, ap}
 use Rattle.links.specs.Options.{grownStats}
 use Rattle.links.specs.declared.options.AbtmMultilevelStats.{AbtmMultilevelStats}
@@ -7,7 +8,10 @@ use Rattle.multilevel.proofs.driver.grow_level.Statement.{statement}
 use Rattle.multilevel.proofs.driver.grow_level.Tie as tie
 
 weighted-multisource-partition-requires : tie.Need-weighted-multisource-partition-requires
-weighted-multisource-partition-requires c κs = growable (c .before .before .before .args .work .now) (c .before .before .before .args .l) (c .before .before .before .args .q) (c .before .before .before .pre)
+weighted-multisource-partition-requires c κs =
+    let c3 = c .before .before .before in
+    let a = c3 .args in
+    growable (a .work .now) (a .l) (a .q) (c3 .pre)
 
 enum-known-g : tie.Need-enum-known-g
 enum-known-g c = search needs
@@ -19,22 +23,40 @@ grown-requires : tie.Need-grown-requires
 grown-requires c κs = search needs
 
 refine-level-requires : tie.Need-refine-level-requires
-refine-level-requires c κs = grown-refining (c .before .before .before .before .before .before .before .before .before .before .before .before .args .work .now) (c .before .before .before .before .before .before .before .before .before .before .before .before .args .l) (c .before .before .before .before .before .before .before .before .before .before .before .before .args .q) (c .before .before .before .before .before .before .before .before .before .before .before .before .pre) _ _ (c .before .before .before .before .before .before .before .before .weighted-multisource-partition .ensures) (c .before .before .before .before .g .given .0 .0) (c .before .before .before .before .g .given .1)
+refine-level-requires c κs =
+    let c4 = c .before .before .before .before in
+    let c8 = c4 .before .before .before .before in
+    let c12 = c8 .before .before .before .before in
+    let a = c12 .args in
+    grown-refining (a .work .now) (a .l) (a .q) (c12 .pre) _ _ (c8 .weighted-multisource-partition .ensures) (c4 .g .given .0 .0) (c4 .g .given .1)
 
 enum-known-g-2 : tie.Need-enum-known-g-2
 enum-known-g-2 c = search needs
 
 same-length : tie.Need-same-length
-same-length c = c .before .before .refine-level .ensures .kept .same-length ∙ c .before .before .before .before .before .before .before .before .before .before .before .weighted-multisource-partition .ensures .kept .same-length
+same-length c =
+    let c11 = c .before .before .before .before .before .before .before .before .before .before .before in
+    c .before .before .refine-level .ensures .kept .same-length ∙ c11 .weighted-multisource-partition .ensures .kept .same-length
 
 returns : tie.Need-returns
-returns c = level-grown (c .before .before .before .before .before .before .before .before .before .before .before .before .before .before .before .args .work .now) (c .before .before .before .before .before .before .before .before .before .before .before .before .before .before .before .args .l) (c .before .before .before .before .before .before .before .before .before .before .before .before .before .before .before .args .q) (c .before .before .before .before .before .before .before .before .before .before .before .before .before .before .before .pre) _ _ (c .before .before .before .before .before .before .before .before .before .before .before .weighted-multisource-partition .ensures) (c .before .before .before .before .before .before .before .g .given .0 .0) (c .before .before .before .before .before .before .before .g .given .1) _ (c .before .before .before .grown .result) _ (c .before .before .before .grown .ensures ∙ ap (λ (s : AbtmMultilevelStats). grownStats s (c .before .before .before .before .before .before .before .before .before .before .before .before .before .before .before .args .l .vertices) (c .before .before .before .before .before .before .before .g .given .0 .0)) (c .before .before .before .before .zero .ensures)) (c .before .before .refine-level .ensures)
+returns c =
+    let c3 = c .before .before .before in
+    let c4 = c3 .before in
+    let c7 = c4 .before .before .before in
+    let c11 = c7 .before .before .before .before in
+    let c15 = c11 .before .before .before .before in
+    let a = c15 .args in
+    level-grown (a .work .now) (a .l) (a .q) (c15 .pre) _ _ (c11 .weighted-multisource-partition .ensures) (c7 .g .given .0 .0) (c7 .g .given .1) _ (c3 .grown .result) _ (c3 .grown .ensures ∙ ap (λ (s : AbtmMultilevelStats). grownStats s (a .l .vertices) (c7 .g .given .0 .0)) (c4 .zero .ensures)) (c .before .before .refine-level .ensures)
 
 same-length-2 : tie.Need-same-length-2
 same-length-2 c = c .before .before .before .before .before .weighted-multisource-partition .ensures .kept .same-length
 
 returns-2 : tie.Need-returns-2
-returns-2 c = level-ungrown (c .before .before .before .before .before .before .before .before .before .args .work .now) (c .before .before .before .before .before .before .before .before .before .args .l) (c .before .before .before .before .before .before .before .before .before .args .q) (c .before .before .before .before .before .before .before .before .before .pre) _ _ (c .before .before .before .before .before .weighted-multisource-partition .ensures) (c .before .g2 .given .0 .0) (c .before .g2 .given .1)
+returns-2 c =
+    let c5 = c .before .before .before .before .before in
+    let c9 = c5 .before .before .before .before in
+    let a = c9 .args in
+    level-ungrown (a .work .now) (a .l) (a .q) (c9 .pre) _ _ (c5 .weighted-multisource-partition .ensures) (c .before .g2 .given .0 .0) (c .before .g2 .given .1)
 
 pub grow-level-spec : {M : Type 1} → statement M
 grow-level-spec =

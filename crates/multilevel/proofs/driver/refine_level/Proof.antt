@@ -1,3 +1,4 @@
+-- Moves, which may refuse. Assumes nothing.
 use Rattle.multilevel.proofs.PlaceLaws.{refinable, level-moved, level-refused}
 use borrow.Author.Needs.{needs}
 use Rattle.multilevel.proofs.driver.refine_level.Statement.{statement}
@@ -19,13 +20,21 @@ same-length : tie.Need-same-length
 same-length c = c .before .before .before .before .before .before .refine-by-cut .ensures .kept .same-length
 
 returns : tie.Need-returns
-returns c = level-moved (c .before .before .before .before .before .before .before .before .before .before .args .work .now) (c .before .before .before .before .before .before .before .before .before .before .args .l) (c .before .before .before .before .before .before .before .before .before .before .args .q) (c .before .before .before .before .before .before .before .before .before .before .pre) _ (c .before .before .before .before .before .before .before .before .before .before .args .s) (c .added-moves .result) (c .before .before .r .given .0 .0) (rw (c .before .before .r .given .1) at (c .before .before .before .before .before .before .refine-by-cut .ensures)) (c .added-moves .ensures)
+returns c =
+    let c6 = c .before .before .before .before .before .before in
+    let c10 = c6 .before .before .before .before in
+    let a = c10 .args in
+    level-moved (a .work .now) (a .l) (a .q) (c10 .pre) _ (a .s) (c .added-moves .result) (c .before .before .r .given .0 .0) (rw (c .before .before .r .given .1) at (c6 .refine-by-cut .ensures)) (c .added-moves .ensures)
 
 same-length-2 : tie.Need-same-length-2
 same-length-2 c = c .before .before .before .before .before .refine-by-cut .ensures .kept .same-length
 
 returns-2 : tie.Need-returns-2
-returns-2 c = level-refused (c .before .before .before .before .before .before .before .before .before .args .work .now) (c .before .before .before .before .before .before .before .before .before .args .l) (c .before .before .before .before .before .before .before .before .before .args .q) (c .before .before .before .before .before .before .before .before .before .pre) _ (c .before .before .before .before .before .before .before .before .before .args .s) (c .before .r2 .given .0 .0) (rw (c .before .r2 .given .1) at (c .before .before .before .before .before .refine-by-cut .ensures))
+returns-2 c =
+    let c5 = c .before .before .before .before .before in
+    let c9 = c5 .before .before .before .before in
+    let a = c9 .args in
+    level-refused (a .work .now) (a .l) (a .q) (c9 .pre) _ (a .s) (c .before .r2 .given .0 .0) (rw (c .before .r2 .given .1) at (c5 .refine-by-cut .ensures))
 
 pub refine-level-spec : {M : Type 1} → statement M
 refine-level-spec =

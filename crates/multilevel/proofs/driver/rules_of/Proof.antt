@@ -1,3 +1,4 @@
+-- Within the limits no sum or product overflows. Assumes nothing.
 use native.Mathlib.Omega.{arith}
 use native.Mathlib.Nat.{add-mul}
 use Prim.Native.Nat.{ℕ, _+_, _*_}
@@ -42,7 +43,10 @@ add-t11 : tie.Need-add-t11
 add-t11 c = search needs
 
 mul-t10 : tie.Need-mul-t10
-mul-t10 c = omega (arith, need-small (c .before .before .before .before .before .args .n) (c .before .before .before .before .before .args .m) (c .before .before .before .before .before .args .ranks) (c .before .before .before .before .before .args .options .«max_levels») (c .before .before .before .before .before .pre .0) .0, add-mul (c .before .before .before .before .before .args .options .«max_levels» + 1) 5 (unitOf (c .before .before .before .before .before .args .n) (c .before .before .before .before .before .args .m)), six (c .before .before .before .before .before .args .options .«max_levels») (unitOf (c .before .before .before .before .before .args .n) (c .before .before .before .before .before .args .m)))
+mul-t10 c =
+    let c5 = c .before .before .before .before .before in
+    let a = c5 .args in
+    omega (arith, need-small (a .n) (a .m) (a .ranks) (a .options .«max_levels») (c5 .pre .0) .0, add-mul (a .options .«max_levels» + 1) 5 (unitOf (a .n) (a .m)), six (a .options .«max_levels») (unitOf (a .n) (a .m)))
 
 returns : tie.Need-returns
 returns c = rw (c .before .before .before .index .ensures, c .before .before .minimum-load .ensures, c .before .load-cap .ensures, c .stop-size .ensures)

@@ -1,3 +1,4 @@
+-- A number of the file at a place that is in it. Assumes nothing.
 use Rattle.multilevel.specs.File.{highEnd}
 use borrow.Author.Needs.{needs}
 use Rattle.multilevel.proofs.file.high_end.Statement.{statement}

@@ -1,3 +1,4 @@
+-- The invariant: from i on all links are good just where all are. Assumes nothing.
 use Prim.Native.Nat.{_≤_, _-_}
 use mathlib.Core.Path.{_≡_, sym, refl, _∙_}
 use native.Mathlib.Omega.{arith}
@@ -28,10 +29,16 @@ loop-less : tie.Need-loop-less Inv-loop μ-loop
 loop-less c = omega arith
 
 loop-again : tie.Need-loop-again Inv-loop μ-loop
-loop-again c = (omega arith, all-more (goodLink (c .before .before .before .before .before .args .b .now)) (c .before .before .before .before .before .args .e) (c .before .before .before .loop .i) (c .before .before .loop-test .taken) (sym (c .before .link-good .ensures) ∙ (c .if1 .taken)) ∙ c .before .before .before .loop .inv .1)
+loop-again c =
+    let c3 = c .before .before .before in
+    let c5 = c3 .before .before in
+    (omega arith, all-more (goodLink (c5 .args .b .now)) (c5 .args .e) (c3 .loop .i) (c .before .before .loop-test .taken) (sym (c .before .link-good .ensures) ∙ (c .if1 .taken)) ∙ c3 .loop .inv .1)
 
 returns : tie.Need-returns Inv-loop μ-loop
-returns c = all-ends (goodLink (c .before .before .before .before .before .args .b .now)) (c .before .before .before .before .before .args .e) (c .before .before .before .loop .i) (c .before .before .loop-test .taken) (sym (c .before .link-good .ensures) ∙ (c .if1 .left)) ∙ c .before .before .before .loop .inv .1
+returns c =
+    let c3 = c .before .before .before in
+    let c5 = c3 .before .before in
+    all-ends (goodLink (c5 .args .b .now)) (c5 .args .e) (c3 .loop .i) (c .before .before .loop-test .taken) (sym (c .before .link-good .ensures) ∙ (c .if1 .left)) ∙ c3 .loop .inv .1
 
 returns-2 : tie.Need-returns-2 Inv-loop μ-loop
 returns-2 c = sym (all-done (goodLink (c .before .before .before .args .b .now)) (c .before .before .before .args .e) (c .before .loop .i) (c .loop-test .left)) ∙ c .before .loop .inv .1

@@ -1,3 +1,4 @@
+-- Four bytes, the lowest first: no sum overflows. Assumes nothing.
 use Rattle.multilevel.specs.File.{number}
 use native.Mathlib.Omega.{arith}
 use borrow.Author.Needs.{needs}

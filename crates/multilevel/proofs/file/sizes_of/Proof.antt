@@ -1,3 +1,4 @@
+-- The seven numbers of the head. Assumes nothing.
 use Rattle.multilevel.specs.File.{sizesOf}
 use borrow.Author.Needs.{needs}
 use Rattle.multilevel.proofs.file.sizes_of.Statement.{statement}

@@ -1,3 +1,4 @@
+-- The link's other end if v is one of its ends, or nothing. Assumes nothing.
 use mathlib.Core.Path.{sym, _∙_, ap}
 use lib.ListN.{length}
 use native.Mathlib.Omega.{arith}
@@ -16,7 +17,10 @@ mul-neighbors : tie.Need-mul-neighbors
 mul-neighbors c = search needs
 
 slice-write-neighbors : tie.Need-slice-write-neighbors
-slice-write-neighbors c = omega (arith, c .before .before .before .before .before .pre .2, ap length (other-low (c .before .before .before .before .before .args .b .now) (c .before .before .before .before .before .args .v) (c .before .before .before .before .before .args .i) (sym (c .before .before .low-end .ensures) ∙ c .if1 .taken)))
+slice-write-neighbors c =
+    let c5 = c .before .before .before .before .before in
+    let a = c5 .args in
+    omega (arith, c5 .pre .2, ap length (other-low (a .b .now) (a .v) (a .i) (sym (c .before .before .low-end .ensures) ∙ c .if1 .taken)))
 
 add-result : tie.Need-add-result
 add-result c = search needs
@@ -25,13 +29,20 @@ same-length : tie.Need-same-length
 same-length c = search needs
 
 returns : tie.Need-returns
-returns c = written-one _ (c .before .before .before .before .before .args .at) (c .before .before .before .before .before .args .neighbors .now) _ _ (other-low (c .before .before .before .before .before .args .b .now) (c .before .before .before .before .before .args .v) (c .before .before .before .before .before .args .i) (sym (c .before .before .low-end .ensures) ∙ c .if1 .taken)) (c .before .high-end .ensures)
+returns c =
+    let c5 = c .before .before .before .before .before in
+    let a = c5 .args in
+    written-one _ (a .at) (a .neighbors .now) _ _ (other-low (a .b .now) (a .v) (a .i) (sym (c .before .before .low-end .ensures) ∙ c .if1 .taken)) (c .before .high-end .ensures)
 
 mul-neighbors-2 : tie.Need-mul-neighbors-2
 mul-neighbors-2 c = search needs
 
 slice-write-neighbors-2 : tie.Need-slice-write-neighbors-2
-slice-write-neighbors-2 c = omega (arith, c .before .before .before .before .before .before .pre .2, ap length (other-high (c .before .before .before .before .before .before .args .b .now) (c .before .before .before .before .before .before .args .v) (c .before .before .before .before .before .before .args .i) (λ e. c .before .if1 .left (c .before .before .before .low-end .ensures ∙ e)) (sym (c .before .before .high-end .ensures) ∙ c .if2 .taken)))
+slice-write-neighbors-2 c =
+    let c3 = c .before .before .before in
+    let c6 = c3 .before .before .before in
+    let a = c6 .args in
+    omega (arith, c6 .pre .2, ap length (other-high (a .b .now) (a .v) (a .i) (λ e. c .before .if1 .left (c3 .low-end .ensures ∙ e)) (sym (c .before .before .high-end .ensures) ∙ c .if2 .taken)))
 
 add-result-2 : tie.Need-add-result-2
 add-result-2 c = search needs
@@ -40,10 +51,18 @@ same-length-2 : tie.Need-same-length-2
 same-length-2 c = search needs
 
 returns-2 : tie.Need-returns-2
-returns-2 c = written-one _ (c .before .before .before .before .before .before .args .at) (c .before .before .before .before .before .before .args .neighbors .now) _ _ (other-high (c .before .before .before .before .before .before .args .b .now) (c .before .before .before .before .before .before .args .v) (c .before .before .before .before .before .before .args .i) (λ e. c .before .if1 .left (c .before .before .before .low-end .ensures ∙ e)) (sym (c .before .before .high-end .ensures) ∙ c .if2 .taken)) (c .before .before .before .low-end .ensures)
+returns-2 c =
+    let c3 = c .before .before .before in
+    let c6 = c3 .before .before .before in
+    let a = c6 .args in
+    written-one _ (a .at) (a .neighbors .now) _ _ (other-high (a .b .now) (a .v) (a .i) (λ e. c .before .if1 .left (c3 .low-end .ensures ∙ e)) (sym (c .before .before .high-end .ensures) ∙ c .if2 .taken)) (c3 .low-end .ensures)
 
 returns-3 : tie.Need-returns-3
-returns-3 c = written-none _ (c .before .before .before .before .before .before .args .at) (c .before .before .before .before .before .before .args .neighbors .now) (other-none (c .before .before .before .before .before .before .args .b .now) (c .before .before .before .before .before .before .args .v) (c .before .before .before .before .before .before .args .i) (λ e. c .before .if1 .left (c .before .before .before .low-end .ensures ∙ e)) (λ e. c .if2 .left (c .before .before .high-end .ensures ∙ e)))
+returns-3 c =
+    let c3 = c .before .before .before in
+    let c6 = c3 .before .before .before in
+    let a = c6 .args in
+    written-none _ (a .at) (a .neighbors .now) (other-none (a .b .now) (a .v) (a .i) (λ e. c .before .if1 .left (c3 .low-end .ensures ∙ e)) (λ e. c .if2 .left (c .before .before .high-end .ensures ∙ e)))
 
 pub write-end-spec : {M : Type 1} → statement M
 write-end-spec =

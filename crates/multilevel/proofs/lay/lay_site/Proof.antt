@@ -1,3 +1,4 @@
+-- Two copies and a fill, each of which leaves those before it. Assumes nothing.
 use Rattle.multilevel.proofs.LayLaws.{site-laid}
 use borrow.Author.Needs.{needs}
 use Rattle.multilevel.proofs.lay.lay_site.Statement.{statement}
@@ -28,7 +29,12 @@ same-length : tie.Need-same-length
 same-length c = search needs
 
 returns : tie.Need-returns
-returns c = site-laid (c .before .before .before .before .before .before .before .before .before .before .before .before .before .before .before .before .before .before .before .args .work .now) (c .before .before .before .before .before .before .before .before .before .before .before .before .copy-part .last .0) (c .before .before .before .before .before .before .before .copy-part2 .last .0) (c .before .before .fill-part .last .0) (c .before .before .before .before .before .before .before .before .before .before .before .before .before .before .before .before .before .before .before .args .l) (c .before .before .before .before .before .before .before .before .before .before .before .before .before .before .before .before .before .before .before .args .offsets .now) (c .before .before .before .before .before .before .before .before .before .before .before .before .before .before .before .before .before .before .before .args .neighbors .now) (c .before .before .before .before .before .before .before .before .before .before .before .before .before .before .before .before .before .before .before .pre) (c .before .before .before .before .before .before .before .before .before .before .before .before .copy-part .ensures) (c .before .before .before .before .before .before .before .copy-part2 .ensures) (c .before .before .fill-part .ensures)
+returns c =
+    let c7 = c .before .before .before .before .before .before .before in
+    let c12 = c7 .before .before .before .before .before in
+    let c19 = c12 .before .before .before .before .before .before .before in
+    let a = c19 .args in
+    site-laid (a .work .now) (c12 .copy-part .last .0) (c7 .copy-part2 .last .0) (c .before .before .fill-part .last .0) (a .l) (a .offsets .now) (a .neighbors .now) (c19 .pre) (c12 .copy-part .ensures) (c7 .copy-part2 .ensures) (c .before .before .fill-part .ensures)
 
 pub lay-site-spec : {M : Type 1} → statement M
 lay-site-spec =

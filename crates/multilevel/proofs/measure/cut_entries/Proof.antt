@@ -1,3 +1,4 @@
+-- The invariant: the entries of the vertices before v that join two ranks are counted. Assumes nothing.
 use Prim.Native.Nat.{_-_}
 use native.Mathlib.Omega.{arith}
 use lib.ListN.{length}
@@ -25,12 +26,18 @@ shared-slice-read-foreign : tie.Need-shared-slice-read-foreign Inv-loop μ-loop
 shared-slice-read-foreign c = search needs
 
 foreign-requires : tie.Need-foreign-requires Inv-loop μ-loop
-foreign-requires c κs = row-owned _ _ _ (c .before .before .before .before .before .before .before .pre) (c .before .before .before .loop .v) (c .before .before .loop-test .taken) (c .before .neighbors-of .result .now) (c .before .neighbors-of .ensures)
+foreign-requires c κs =
+    let c3 = c .before .before .before in
+    let c7 = c3 .before .before .before .before in
+    row-owned _ _ _ (c7 .pre) (c3 .loop .v) (c .before .before .loop-test .taken) (c .before .neighbors-of .result .now) (c .before .neighbors-of .ensures)
 
 add-x : tie.Need-add-x Inv-loop μ-loop
 add-x c =
-    let t = cutting-more _ _ _ (c .before .before .before .before .before .before .before .before .pre) (c .before .before .before .before .loop .v) (c .before .before .before .loop-test .taken) (c .before .before .neighbors-of .result .now) (c .before .before .neighbors-of .ensures) (c .before .before .before .before .loop .x) (c .foreign .result) (c .before .before .before .before .loop .inv) (c .foreign .ensures) in
-    omega (arith, t .small, c .before .before .before .before .before .before .before .before .pre .few)
+    let c3 = c .before .before .before in
+    let c4 = c3 .before in
+    let c8 = c4 .before .before .before .before in
+    let t = cutting-more _ _ _ (c8 .pre) (c4 .loop .v) (c3 .loop-test .taken) (c .before .before .neighbors-of .result .now) (c .before .before .neighbors-of .ensures) (c4 .loop .x) (c .foreign .result) (c4 .loop .inv) (c .foreign .ensures) in
+    omega (arith, t .small, c8 .pre .few)
 
 add-v : tie.Need-add-v Inv-loop μ-loop
 add-v c = search needs
@@ -39,7 +46,11 @@ loop-less : tie.Need-loop-less Inv-loop μ-loop
 loop-less c = omega arith
 
 loop-again : tie.Need-loop-again Inv-loop μ-loop
-loop-again c = cutting-more _ _ _ (c .before .before .before .before .before .before .before .before .pre) (c .before .before .before .before .loop .v) (c .before .before .before .loop-test .taken) (c .before .before .neighbors-of .result .now) (c .before .before .neighbors-of .ensures) (c .before .before .before .before .loop .x) (c .foreign .result) (c .before .before .before .before .loop .inv) (c .foreign .ensures)
+loop-again c =
+    let c3 = c .before .before .before in
+    let c4 = c3 .before in
+    let c8 = c4 .before .before .before .before in
+    cutting-more _ _ _ (c8 .pre) (c4 .loop .v) (c3 .loop-test .taken) (c .before .before .neighbors-of .result .now) (c .before .before .neighbors-of .ensures) (c4 .loop .x) (c .foreign .result) (c4 .loop .inv) (c .foreign .ensures)
 
 returns : tie.Need-returns Inv-loop μ-loop
 returns c = cutting-done _ _ _ (c .before .before .before .before .before .pre) (c .before .loop .x) (c .before .loop .v) (c .before .loop .inv) (c .loop-test .left)

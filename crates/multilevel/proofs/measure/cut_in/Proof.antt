@@ -1,3 +1,4 @@
+-- The level's lists are lent as parts. Assumes nothing.
 use Rattle.multilevel.proofs.MeasureLaws.{level-owned}
 use borrow.Author.Needs.{needs}
 use Rattle.multilevel.proofs.measure.cut_in.Statement.{statement}

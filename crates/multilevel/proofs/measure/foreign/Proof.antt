@@ -1,3 +1,4 @@
+-- The invariant: with what is left of the row, the count is that of the row. Assumes nothing.
 use Prim.Native.Nat.{_≤_, _<_, _+_, _-_}
 use mathlib.Core.Path.{_≡_, _∙_, ap}
 use mathlib.Core.Logic.{⊎-elim}
@@ -34,12 +35,17 @@ index-requires c κs = search needs
 
 mul-if1 : tie.Need-mul-if1 Inv-loop μ-loop
 mul-if1 c =
-    let u = all-place (λ u. u < length (c .before .before .before .before .before .before .args .owners .now)) (c .before .before .before .before .before .before .args .row .now) (c .before .before .before .loop .i) (c .before .before .before .before .before .before .pre) (c .before .before .loop-test .taken) in
+    let c3 = c .before .before .before in
+    let c6 = c3 .before .before .before in
+    let u = all-place (λ u. u < length (c6 .args .owners .now)) (c6 .args .row .now) (c3 .loop .i) (c6 .pre) (c .before .before .loop-test .taken) in
     omega (arith, c .index .ensures)
 
 shared-slice-read-if1 : tie.Need-shared-slice-read-if1 Inv-loop μ-loop
 shared-slice-read-if1 c =
-    let u = all-place (λ u. u < length (c .before .before .before .before .before .before .before .args .owners .now)) (c .before .before .before .before .before .before .before .args .row .now) (c .before .before .before .before .loop .i) (c .before .before .before .before .before .before .before .pre) (c .before .before .before .loop-test .taken) in
+    let c3 = c .before .before .before in
+    let c4 = c3 .before in
+    let c7 = c4 .before .before .before in
+    let u = all-place (λ u. u < length (c7 .args .owners .now)) (c7 .args .row .now) (c4 .loop .i) (c7 .pre) (c3 .loop-test .taken) in
     omega (arith, c .before .index .ensures)
 
 add-x : tie.Need-add-x Inv-loop μ-loop

@@ -1,3 +1,4 @@
+-- The cut is counted, and the volume over marks that are cleared. Assumes nothing.
 use native.Mathlib.Omega.{arith}
 use Rattle.links.proofs.PartLaws.{filled-kept, filled-at}
 use Rattle.multilevel.proofs.MeasureLaws.{measurable-kept, measured}
@@ -17,10 +18,12 @@ fill-part-requires c κs = search needs
 
 volume-in-requires : tie.Need-volume-in-requires
 volume-in-requires c κs =
-    let s = c .before .before .before .before .before .before .before .before in
+    let c3 = c .before .before .before in
+    let c8 = c3 .before .before .before .before .before in
+    let s = c8 in
     let a = s .args in
-    let w = c .before .before .before .fill-part .last .0 in
-    let e = c .before .before .before .fill-part .ensures in
+    let w = c3 .fill-part .last .0 in
+    let e = c3 .fill-part .ensures in
     (measurable-kept _ _ _ _ _ (filled-kept (a .work .now) w (a .scratch) (a .ranks) 0 (s .pre .inside) e) (s .pre), λ r h. omega (arith, filled-at (a .work .now) w (a .scratch) (a .ranks) 0 (s .pre .inside) e r h))
 
 same-length : tie.Need-same-length
@@ -28,11 +31,14 @@ same-length c = search needs
 
 returns : tie.Need-returns
 returns c =
-    let s = c .before .before .before .before .before .before .before .before .before .before .before in
+    let c6 = c .before .before .before .before .before .before in
+    let c8 = c6 .before .before in
+    let c11 = c8 .before .before .before in
+    let s = c11 in
     let a = s .args in
-    let w = c .before .before .before .before .before .before .fill-part .last .0 in
-    let e = c .before .before .before .before .before .before .fill-part .ensures in
-    measured _ _ _ _ _ _ _ (s .pre) (filled-kept (a .work .now) w (a .scratch) (a .ranks) 0 (s .pre .inside) e) (c .before .before .before .before .before .before .before .before .cut-in .ensures) (c .before .before .volume-in .ensures)
+    let w = c6 .fill-part .last .0 in
+    let e = c6 .fill-part .ensures in
+    measured _ _ _ _ _ _ _ (s .pre) (filled-kept (a .work .now) w (a .scratch) (a .ranks) 0 (s .pre .inside) e) (c8 .cut-in .ensures) (c .before .before .volume-in .ensures)
 
 pub measure-level-spec : {M : Type 1} → statement M
 measure-level-spec =

@@ -1,3 +1,4 @@
+-- The home rank, one that is marked already, or a new one. Assumes nothing.
 use Rattle.multilevel.proofs.MeasureLaws.{met-home, met-marked, met-new}
 use native.Mathlib.Omega.{arith}
 use borrow.Author.Needs.{needs}
@@ -29,7 +30,10 @@ slice-read-if2 : tie.Need-slice-read-if2
 slice-read-if2 c = omega (arith, c .before .index .ensures)
 
 returns-2 : tie.Need-returns-2
-returns-2 c = met-marked _ _ _ (c .before .before .before .before .before .before .args .seen) _ (c .before .before .before .if1 .left) (c .before .before .index .result) (c .before .before .index .ensures) (c .if2 .taken)
+returns-2 c =
+    let c3 = c .before .before .before in
+    let c6 = c3 .before .before .before in
+    met-marked _ _ _ (c6 .args .seen) _ (c3 .if1 .left) (c .before .before .index .result) (c .before .before .index .ensures) (c .if2 .taken)
 
 mul-work : tie.Need-mul-work
 mul-work c = omega (arith, c .before .before .index .ensures)
@@ -41,7 +45,10 @@ same-length : tie.Need-same-length
 same-length c = search needs
 
 returns-3 : tie.Need-returns-3
-returns-3 c = met-new _ _ _ (c .before .before .before .before .before .before .args .seen) _ (c .before .before .before .if1 .left) (c .before .before .index .result) (c .before .before .index .ensures) (c .if2 .left)
+returns-3 c =
+    let c3 = c .before .before .before in
+    let c6 = c3 .before .before .before in
+    met-new _ _ _ (c6 .args .seen) _ (c3 .if1 .left) (c .before .before .index .result) (c .before .before .index .ensures) (c .if2 .left)
 
 pub meet-spec : {M : Type 1} → statement M
 meet-spec =

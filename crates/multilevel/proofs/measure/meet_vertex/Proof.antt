@@ -1,3 +1,4 @@
+-- A vertex's row lies where its offsets say, and no mark is its own yet. Assumes nothing.
 use native.Mathlib.Omega.{arith}
 use Prim.Native.Nat.{_+_}
 use Rattle.multilevel.proofs.RoomLaws.{offset-in}
@@ -37,7 +38,9 @@ index-requires-2 : tie.Need-index-requires-2
 index-requires-2 c κs = search needs
 
 add-e : tie.Need-add-e
-add-e c = omega (arith, c .before .index2 .ensures, offset-in _ _ _ (c .before .before .before .before .before .before .before .pre .0 .ready) (c .before .before .before .before .before .before .before .args .v + 1) (omega arith))
+add-e c =
+    let c7 = c .before .before .before .before .before .before .before in
+    omega (arith, c .before .index2 .ensures, offset-in _ _ _ (c7 .pre .0 .ready) (c7 .args .v + 1) (omega arith))
 
 add-home : tie.Need-add-home
 add-home c = search needs
@@ -55,13 +58,21 @@ add-meet-row : tie.Need-add-meet-row
 add-meet-row c = search needs
 
 meet-row-requires : tie.Need-meet-row-requires
-meet-row-requires c κs = rw (c .before .before .before .before .before .before .index .ensures, c .before .before .before .index2 .ensures) (vertex-legible _ _ _ _ (c .before .before .before .before .before .before .before .before .before .pre .0) (c .before .before .before .before .before .before .before .before .before .args .v) (c .before .before .before .before .before .before .before .before .before .pre .1) (c .before .before .before .before .before .before .before .before .before .pre .2))
+meet-row-requires c κs =
+    let c3 = c .before .before .before in
+    let c6 = c3 .before .before .before in
+    let c9 = c6 .before .before .before in
+    rw (c6 .index .ensures, c3 .index2 .ensures) (vertex-legible _ _ _ _ (c9 .pre .0) (c9 .args .v) (c9 .pre .1) (c9 .pre .2))
 
 same-length : tie.Need-same-length
 same-length c = search needs
 
 returns : tie.Need-returns
-returns c = vertex-met _ _ _ _ (c .before .before .before .before .before .before .before .before .before .before .before .before .pre .0) (c .before .before .before .before .before .before .before .before .before .before .before .before .args .v) (c .before .before .before .before .before .before .before .before .before .before .before .before .pre .1) (c .before .before .meet-row .last .0) (c .before .before .meet-row .result) (rw (c .before .before .before .before .before .before .before .before .before .index .ensures, c .before .before .before .before .before .before .index2 .ensures) at (c .before .before .meet-row .ensures))
+returns c =
+    let c6 = c .before .before .before .before .before .before in
+    let c9 = c6 .before .before .before in
+    let c12 = c9 .before .before .before in
+    vertex-met _ _ _ _ (c12 .pre .0) (c12 .args .v) (c12 .pre .1) (c .before .before .meet-row .last .0) (c .before .before .meet-row .result) (rw (c9 .index .ensures, c6 .index2 .ensures) at (c .before .before .meet-row .ensures))
 
 pub meet-vertex-spec : {M : Type 1} → statement M
 meet-vertex-spec =

@@ -1,3 +1,4 @@
+-- The invariant: the vertices before v have their groups' owners. Assumes nothing.
 use Prim.Native.Nat.{_≤_, _-_}
 use native.Mathlib.Omega.{arith}
 use Rattle.multilevel.proofs.RoomLaws.{Taking, taking-none, taking-more, taking-all, group-in, group-read}
@@ -27,13 +28,23 @@ index-requires : tie.Need-index-requires Inv-loop μ-loop
 index-requires c κs = search needs
 
 add-work : tie.Need-add-work Inv-loop μ-loop
-add-work c = omega (arith, group-in _ _ _ (c .before .before .before .before .before .pre) (c .before .before .before .loop .v) (c .before .before .loop-test .taken), group-read _ _ _ (c .before .before .before .before .before .pre) (c .before .before .before .loop .work) (c .before .before .before .loop .v) (c .before .before .before .loop .inv .0) (c .before .before .loop-test .taken))
+add-work c =
+    let c3 = c .before .before .before in
+    let c5 = c3 .before .before in
+    omega (arith, group-in _ _ _ (c5 .pre) (c3 .loop .v) (c .before .before .loop-test .taken), group-read _ _ _ (c5 .pre) (c3 .loop .work) (c3 .loop .v) (c3 .loop .inv .0) (c .before .before .loop-test .taken))
 
 mul-work : tie.Need-mul-work Inv-loop μ-loop
-mul-work c = omega (arith, group-in _ _ _ (c .before .before .before .before .before .pre) (c .before .before .before .loop .v) (c .before .before .loop-test .taken), group-read _ _ _ (c .before .before .before .before .before .pre) (c .before .before .before .loop .work) (c .before .before .before .loop .v) (c .before .before .before .loop .inv .0) (c .before .before .loop-test .taken))
+mul-work c =
+    let c3 = c .before .before .before in
+    let c5 = c3 .before .before in
+    omega (arith, group-in _ _ _ (c5 .pre) (c3 .loop .v) (c .before .before .loop-test .taken), group-read _ _ _ (c5 .pre) (c3 .loop .work) (c3 .loop .v) (c3 .loop .inv .0) (c .before .before .loop-test .taken))
 
 slice-read-work : tie.Need-slice-read-work Inv-loop μ-loop
-slice-read-work c = omega (arith, group-in _ _ _ (c .before .before .before .before .before .before .pre) (c .before .before .before .before .loop .v) (c .before .before .before .loop-test .taken), group-read _ _ _ (c .before .before .before .before .before .before .pre) (c .before .before .before .before .loop .work) (c .before .before .before .before .loop .v) (c .before .before .before .before .loop .inv .0) (c .before .before .before .loop-test .taken), c .before .before .before .before .loop .inv .0 .frame .same-length)
+slice-read-work c =
+    let c3 = c .before .before .before in
+    let c4 = c3 .before in
+    let c6 = c4 .before .before in
+    omega (arith, group-in _ _ _ (c6 .pre) (c4 .loop .v) (c3 .loop-test .taken), group-read _ _ _ (c6 .pre) (c4 .loop .work) (c4 .loop .v) (c4 .loop .inv .0) (c3 .loop-test .taken), c4 .loop .inv .0 .frame .same-length)
 
 add-work-2 : tie.Need-add-work-2 Inv-loop μ-loop
 add-work-2 c = search needs
@@ -51,7 +62,11 @@ loop-less : tie.Need-loop-less Inv-loop μ-loop
 loop-less c = omega arith
 
 loop-again : tie.Need-loop-again Inv-loop μ-loop
-loop-again c = rw (c .before .index .ensures) (taking-more _ _ _ (c .before .before .before .before .before .before .pre) (c .before .before .before .before .loop .work) (c .before .before .before .before .loop .v) (c .before .before .before .before .loop .inv .0) (c .before .before .before .loop-test .taken), omega arith)
+loop-again c =
+    let c3 = c .before .before .before in
+    let c4 = c3 .before in
+    let c6 = c4 .before .before in
+    rw (c .before .index .ensures) (taking-more _ _ _ (c6 .pre) (c4 .loop .work) (c4 .loop .v) (c4 .loop .inv .0) (c3 .loop-test .taken), omega arith)
 
 same-length : tie.Need-same-length Inv-loop μ-loop
 same-length c = c .before .loop .inv .0 .frame .same-length

@@ -1,3 +1,4 @@
+-- A copy over the front. Assumes nothing.
 use native.Mathlib.Omega.{arith}
 use mathlib.Core.Path.{_≡_, _∙_}
 use Prim.Native.Nat.{_+_, _-_}
@@ -30,11 +31,13 @@ same-length c = search needs
 
 returns : tie.Need-returns
 returns c =
-    let l = c .before .before .before .before .before .before .before .before .args .l in
-    let n = length-part (c .before .before .before .before .before .before .before .before .args .work .now) (l .owners) (l .owners + l .vertices) (omega arith) (c .before .before .before .before .before .before .before .before .pre .0) in
+    let c8 = c .before .before .before .before .before .before .before .before in
+    let a = c8 .args in
+    let l = a .l in
+    let n = length-part (a .work .now) (l .owners) (l .owners + l .vertices) (omega arith) (c8 .pre .0) in
     let e : l .owners + l .vertices - l .owners ≡ l .vertices = omega arith in
-    let t = part (c .before .before .before .before .before .before .before .before .args .work .now) (l .owners) (l .owners + l .vertices) in
-    c .before .before .copy-into .ensures ∙ copied-is (c .before .before .before .before .before .before .before .before .args .owners .now) t (omega arith) ∙ rw (n, e)
+    let t = part (a .work .now) (l .owners) (l .owners + l .vertices) in
+    c .before .before .copy-into .ensures ∙ copied-is (a .owners .now) t (omega arith) ∙ rw (n, e)
 
 pub write-owners-spec : {M : Type 1} → statement M
 write-owners-spec =

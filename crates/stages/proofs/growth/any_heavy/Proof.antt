@@ -32,9 +32,12 @@ wide-requires c κs = search needs
 
 returns : tie.Need-returns Inv-loop μ-loop
 returns c =
-    let a = c .before .before .before .before .before .before .args in
-    let i = c .before .before .before .before .loop .i in
-    sym (sym (c .before .before .before .before .loop .inv .1) ∙ any-yes (ltb (a .cap)) (a .weights .now) i (c .before .before .before .loop-test .taken) (lt-ltb (a .cap) (at (a .weights .now) i) (rw (c .before .wide .ensures) at (c .if1 .taken))))
+    let c3 = c .before .before .before in
+    let c4 = c3 .before in
+    let c6 = c4 .before .before in
+    let a = c6 .args in
+    let i = c4 .loop .i in
+    sym (sym (c4 .loop .inv .1) ∙ any-yes (ltb (a .cap)) (a .weights .now) i (c3 .loop-test .taken) (lt-ltb (a .cap) (at (a .weights .now) i) (rw (c .before .wide .ensures) at (c .if1 .taken))))
 
 add-i : tie.Need-add-i Inv-loop μ-loop
 add-i c = search needs

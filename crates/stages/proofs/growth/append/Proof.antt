@@ -30,13 +30,15 @@ slice-read-count c = search needs
 
 add-count-2 : tie.Need-add-count-2
 add-count-2 c =
-    let a = c .before .before .before .before .args in
-    record { fits = omega (arith, read-count (a .work .now) (c .before .before .before .before .pre .0) (a .r) (c .before .before .before .before .pre .1), c .before .before .before .before .pre .2) }
+    let c4 = c .before .before .before .before in
+    let a = c4 .args in
+    record { fits = omega (arith, read-count (a .work .now) (c4 .pre .0) (a .r) (c4 .pre .1), c4 .pre .2) }
 
 add-store : tie.Need-add-store
 add-store c =
-    let a = c .before .before .before .before .before .args in
-    record { fits = omega (arith, c .before .before .index .ensures, read-tail (a .work .now) (c .before .before .before .before .before .pre .0) (a .r) (c .before .before .before .before .before .pre .1), c .before .before .before .before .before .pre .3, c .before .before .before .before .before .pre .0 .links-in, c .before .before .before .before .before .pre .0 .loads-in, c .before .before .before .before .before .pre .0 .heads-in, c .before .before .before .before .before .pre .0 .tails-in, c .before .before .before .before .before .pre .0 .places-in, c .before .before .before .before .before .pre .0 .counts-in, c .before .before .before .before .before .good .0 .0) }
+    let c5 = c .before .before .before .before .before in
+    let a = c5 .args in
+    record { fits = omega (arith, c .before .before .index .ensures, read-tail (a .work .now) (c5 .pre .0) (a .r) (c5 .pre .1), c5 .pre .3, c5 .pre .0 .links-in, c5 .pre .0 .loads-in, c5 .pre .0 .heads-in, c5 .pre .0 .tails-in, c5 .pre .0 .places-in, c5 .pre .0 .counts-in, c5 .good .0 .0) }
 
 store-requires : tie.Need-store-requires
 store-requires c κs = search needs

@@ -30,11 +30,14 @@ same-length c = search needs
 
 returns : tie.Need-returns
 returns c =
-    let a = c .before .before .before .before .before .before .before .before .before .before .before .args in
-    let p = c .before .before .before .before .before .before .before .before .before .before .before .pre in
-    let s = c .before .before .before .before .before .before .before .before .own .ensures in
+    let c4 = c .before .before .before .before in
+    let c8 = c4 .before .before .before .before in
+    let c11 = c8 .before .before .before in
+    let a = c11 .args in
+    let p = c11 .pre in
+    let s = c8 .own .ensures in
     claim-begins (a .cap) (a .r) (a .g) (p .0) (p .1) (p .2) s
-    (sym (read-count (c .before .before .before .before .before .before .before .before .own .last .0) (laid-after (s .outside) (p .0 .laid)) (a .r) (p .1)) ∙ c .before .before .before .before .if1 .taken)
+    (sym (read-count (c8 .own .last .0) (laid-after (s .outside) (p .0 .laid)) (a .r) (p .1)) ∙ c4 .if1 .taken)
     (c .before .before .begin .ensures)
 
 append-requires : tie.Need-append-requires
@@ -53,11 +56,14 @@ same-length-2 c = search needs
 
 returns-2 : tie.Need-returns-2
 returns-2 c =
-    let a = c .before .before .before .before .before .before .before .before .before .before .before .args in
-    let p = c .before .before .before .before .before .before .before .before .before .before .before .pre in
-    let s = c .before .before .before .before .before .before .before .before .own .ensures in
+    let c4 = c .before .before .before .before in
+    let c8 = c4 .before .before .before .before in
+    let c11 = c8 .before .before .before in
+    let a = c11 .args in
+    let p = c11 .pre in
+    let s = c8 .own .ensures in
     claim-appends (a .cap) (a .r) (a .g) (p .0) (p .1) (p .2) s
-    (λ e. c .before .before .before .before .if1 .left (read-count (c .before .before .before .before .before .before .before .before .own .last .0) (laid-after (s .outside) (p .0 .laid)) (a .r) (p .1) ∙ e))
+    (λ e. c4 .if1 .left (read-count (c8 .own .last .0) (laid-after (s .outside) (p .0 .laid)) (a .r) (p .1) ∙ e))
     (c .before .before .append .ensures)
 
 pub claim-spec : {M : Type 1} → statement M

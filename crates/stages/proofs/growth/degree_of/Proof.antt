@@ -25,12 +25,14 @@ shared-slice-read-result-2 c = search needs
 
 sub-result : tie.Need-sub-result
 sub-result c =
-    rw (c .before .before .index .ensures) (c .before .before .before .before .before .pre .0 .rises (c .before .before .before .before .before .args .v) (c .before .before .before .before .before .pre .1))
+    let c5 = c .before .before .before .before .before in
+    rw (c .before .before .index .ensures) (c5 .pre .0 .rises (c5 .args .v) (c5 .pre .1))
 
 returns : tie.Need-returns
 returns c =
-    let a = c .before .before .before .before .before .args in
-    rw (c .before .before .index .ensures) (sym (length-row (a .offsets .now) (a .neighbors .now) (c .before .before .before .before .before .pre .0) (a .v) (c .before .before .before .before .before .pre .1)))
+    let c5 = c .before .before .before .before .before in
+    let a = c5 .args in
+    rw (c .before .before .index .ensures) (sym (length-row (a .offsets .now) (a .neighbors .now) (c5 .pre .0) (a .v) (c5 .pre .1)))
 
 pub degree-of-spec : {M : Type 1} → statement M
 degree-of-spec =

@@ -31,8 +31,9 @@ shared-slice-read-is-open c = search needs
 
 is-open-requires : tie.Need-is-open-requires Inv-loop μ-loop
 is-open-requires c κs =
-    let a = c .before .before .before .before .before .before .args in
-    all-place (λ g. (g < length (a .weights .now)) × (g < length (a .owners .now))) (a .order .now) (c .before .before .loop .p) (c .before .before .before .before .before .before .pre .0) (c .before .loop-test .taken)
+    let c6 = c .before .before .before .before .before .before in
+    let a = c6 .args in
+    all-place (λ g. (g < length (a .weights .now)) × (g < length (a .owners .now))) (a .order .now) (c .before .before .loop .p) (c6 .pre .0) (c .before .loop-test .taken)
 
 returns : tie.Need-returns Inv-loop μ-loop
 returns c =

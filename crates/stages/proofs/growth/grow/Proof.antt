@@ -42,14 +42,22 @@ next-round-requires c κs = c .before .before .before .before .before .before .b
 
 loop-less : tie.Need-loop-less Inv-loop μ-loop
 loop-less c =
-    next-less (c .before .before .before .before .before .before .before .before .before .before .before .before .before .before .args .room .level .vertices) (c .before .before .before .before .before .before .before .before .before .loop .i) (c .before .before .before .before .before .more .result .claims) (c .next-round .result) (c .before .before .before .before .before .before .before .before .loop-test .taken) (c .next-round .ensures)
+    let c5 = c .before .before .before .before .before in
+    let c8 = c5 .before .before .before in
+    let c9 = c8 .before in
+    let c14 = c9 .before .before .before .before .before in
+    next-less (c14 .args .room .level .vertices) (c9 .loop .i) (c5 .more .result .claims) (c .next-round .result) (c8 .loop-test .taken) (c .next-round .ensures)
 
 loop-again : tie.Need-loop-again Inv-loop μ-loop
 loop-again c =
-    let i = c .before .before .before .before .before .before .before .before .before .loop .inv in
-    let m = c .before .before .before .before .before .more .ensures in (
+    let c5 = c .before .before .before .before .before in
+    let c8 = c5 .before .before .before in
+    let c9 = c8 .before in
+    let c14 = c9 .before .before .before .before .before in
+    let i = c9 .loop .inv in
+    let m = c5 .more .ensures in (
       refl,
-      growth-step (c .before .before .before .before .before .before .before .before .before .before .before .before .before .before .pre) (i .1) (c .before .before .before .before .before .before .before .before .loop-test .taken) (m .0) (c .next-round .result) (c .next-round .ensures),
+      growth-step (c14 .pre) (i .1) (c8 .loop-test .taken) (m .0) (c .next-round .result) (c .next-round .ensures),
       m .1,
       omega (arith, i .3, m .0 .vacant),
     )

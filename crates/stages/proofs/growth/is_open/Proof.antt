@@ -29,12 +29,16 @@ wide-requires-2 c κs = search needs
 
 add-result : tie.Need-add-result
 add-result c =
-    record { fits = omega (arith, c .before .before .wide .ensures, c .wide2 .ensures, c .before .shared-slice-known4 .given (c .before .before .before .before .before .index .result), c .before .before .before .before .before .before .before .before .fits .load) }
+    let c5 = c .before .before .before .before .before in
+    let c8 = c5 .before .before .before in
+    record { fits = omega (arith, c .before .before .wide .ensures, c .wide2 .ensures, c .before .shared-slice-known4 .given (c5 .index .result), c8 .fits .load) }
 
 returns : tie.Need-returns
 unfolding opens
 returns c =
-    rw (c .before .before .wide .ensures, c .wide2 .ensures, c .before .before .before .before .before .index .ensures, eq-eqb _ _ (rw (c .before .before .before .before .before .index .ensures) at (c .before .before .before .if1 .taken)))
+    let c3 = c .before .before .before in
+    let c5 = c3 .before .before in
+    rw (c .before .before .wide .ensures, c .wide2 .ensures, c5 .index .ensures, eq-eqb _ _ (rw (c5 .index .ensures) at (c3 .if1 .taken)))
 
 returns-2 : tie.Need-returns-2
 unfolding opens

@@ -32,11 +32,13 @@ index-requires-3 c κs = search needs
 
 add-result : tie.Need-add-result
 add-result c =
-    let a = c .before .before .before .before .before .before .args in
+    let c3 = c .before .before .before in
+    let c6 = c3 .before .before .before in
+    let a = c6 .args in
     let h =
-    inside (a .offsets .now) (a .neighbors .now) (c .before .before .before .before .before .before .pre .0) (a .v) (a .i)
-    (c .before .before .before .before .before .before .pre .1) (c .before .before .before .before .before .before .pre .2) in
-    record { fits = omega (arith, c .before .index2 .ensures, ap (at (a .offsets .now)) (c .before .before .before .index .ensures), c .index3 .ensures, c .before .before .before .before .before .before .good .1 .0) }
+    inside (a .offsets .now) (a .neighbors .now) (c6 .pre .0) (a .v) (a .i)
+    (c6 .pre .1) (c6 .pre .2) in
+    record { fits = omega (arith, c .before .index2 .ensures, ap (at (a .offsets .now)) (c3 .index .ensures), c .index3 .ensures, c6 .good .1 .0) }
 
 mul-result : tie.Need-mul-result
 mul-result c =
@@ -56,8 +58,10 @@ shared-slice-read-result c =
 
 returns : tie.Need-returns
 returns c =
-    let a = c .before .before .before .before .before .before .before .args in
-    rw (c .before .before .index2 .ensures, c .before .before .before .before .index .ensures, c .before .index3 .ensures) (sym (row-at (a .offsets .now) (a .neighbors .now) (c .before .before .before .before .before .before .before .pre .0) (a .v) (c .before .before .before .before .before .before .before .pre .1) (a .i) (c .before .before .before .before .before .before .before .pre .2)))
+    let c4 = c .before .before .before .before in
+    let c7 = c4 .before .before .before in
+    let a = c7 .args in
+    rw (c .before .before .index2 .ensures, c4 .index .ensures, c .before .index3 .ensures) (sym (row-at (a .offsets .now) (a .neighbors .now) (c7 .pre .0) (a .v) (c7 .pre .1) (a .i) (c7 .pre .2)))
 
 pub neighbor-spec : {M : Type 1} → statement M
 neighbor-spec =

@@ -29,8 +29,10 @@ returns c = inl (rw (c .before .degree-of .ensures) at (c .if1 .taken), refl, re
 
 returns-2 : tie.Need-returns-2
 returns-2 c =
+    let c3 = c .before .before .before in
+    let c7 = c3 .before .before .before .before in
     inr
-    (rw (c .before .before .before .degree-of .ensures) at (c .before .before .if1 .left), ap (at (c .before .before .before .before .before .before .before .args .links .now)) (c .before .index .ensures), refl, refl)
+    (rw (c3 .degree-of .ensures) at (c .before .before .if1 .left), ap (at (c7 .args .links .now)) (c .before .index .ensures), refl, refl)
 
 pub onward-spec : {M : Type 1} → statement M
 onward-spec =

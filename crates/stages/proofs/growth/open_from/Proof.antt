@@ -67,8 +67,9 @@ first-open-requires c κs =
 
 returns : tie.Need-returns
 returns c =
-    let a = c .before .before .before .before .before .before .before .args in
-    open-post (c .before .before .before .before .before .before .before .pre .0) (a .r) (c .before .before .before .before .before .before .before .pre .1) (a .cap) (a .from) (c .first-open .result) (c .first-open .ensures)
+    let c7 = c .before .before .before .before .before .before .before in
+    let a = c7 .args in
+    open-post (c7 .pre .0) (a .r) (c7 .pre .1) (a .cap) (a .from) (c .first-open .result) (c .first-open .ensures)
 
 pub open-from-spec : {M : Type 1} → statement M
 open-from-spec =

@@ -33,8 +33,9 @@ slice-read-x-2 c = search needs
 
 add-x-3 : tie.Need-add-x-3
 add-x-3 c =
-    let a = c .before .before .before .before .before .args in
-    let p = c .before .before .before .before .before .pre in
+    let c5 = c .before .before .before .before .before in
+    let a = c5 .args in
+    let p = c5 .pre in
     record { fits = omega (arith, read-load (a .work .now) (p .0) (a .r) (p .1), ap (λ (i : ℕ). at (a .work .now) (a .room .level .weights + i)) (c .before .before .index .ensures) ∙ read-weight (a .room) (a .work .now) (a .g) (p .2), p .3) }
 
 add-store : tie.Need-add-store

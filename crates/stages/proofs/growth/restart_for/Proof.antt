@@ -26,14 +26,17 @@ open-from-requires c κs =
 
 cast-cursors : tie.Need-cast-cursors
 cast-cursors c =
-    let a = c .before .before .before .before .before .args in
-    omega (arith, c .open-from .ensures .inside, order-inside (a .cap) (a .r) (c .before .before .before .before .before .pre .0) (c .before .before .before .before .before .pre .1), c .before .before .before .before .before .pre .0 .laid .few)
+    let c5 = c .before .before .before .before .before in
+    let a = c5 .args in
+    omega (arith, c .open-from .ensures .inside, order-inside (a .cap) (a .r) (c5 .pre .0) (c5 .pre .1), c5 .pre .0 .laid .few)
 
 mul-cursors : tie.Need-mul-cursors
 mul-cursors c = search needs
 
 element-write-cursors : tie.Need-element-write-cursors
-element-write-cursors c = omega (arith, c .before .before .before .before .before .pre .1, c .before .before .before .before .before .pre .0 .laid .few-ranks, c .before .before .before .before .before .pre .2 .all)
+element-write-cursors c =
+    let c5 = c .before .before .before .before .before in
+    omega (arith, c5 .pre .1, c5 .pre .0 .laid .few-ranks, c5 .pre .2 .all)
 
 add-result : tie.Need-add-result
 add-result c = search needs

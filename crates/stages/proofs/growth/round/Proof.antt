@@ -48,9 +48,13 @@ loop-less c = omega (arith, c .before .before .before .before .before .before .b
 
 loop-again : tie.Need-loop-again Inv-loop μ-loop
 loop-again c =
-    let e = c .before .before .before .before .turn .ensures in (
-      omega (arith, c .before .before .before .before .before .before .before .loop-test .taken),
-      round-step (c .before .before .before .before .before .before .before .before .before .before .pre .0) (c .before .before .before .before .before .before .before .before .loop .inv .1) (e .0) (c .before .claim-of .result) (c .restart-of .result) (c .before .claim-of .ensures) (c .restart-of .ensures),
+    let c4 = c .before .before .before .before in
+    let c7 = c4 .before .before .before in
+    let c8 = c7 .before in
+    let c10 = c8 .before .before in
+    let e = c4 .turn .ensures in (
+      omega (arith, c7 .loop-test .taken),
+      round-step (c10 .pre .0) (c8 .loop .inv .1) (e .0) (c .before .claim-of .result) (c .restart-of .result) (c .before .claim-of .ensures) (c .restart-of .ensures),
       e .1,
     )
 

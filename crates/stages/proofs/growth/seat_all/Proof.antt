@@ -24,17 +24,20 @@ sub-r c = c .loop-test .taken
 
 add-g : tie.Need-add-g Inv-loop μ-loop
 add-g c =
-    let b = c .before .before .before .pre in
-    record { fits = omega (arith, c .before .loop .inv .0, c .before .before .before .good .0 .0, b .sown .laid .seeds-in, b .sown .laid .links-in, b .sown .laid .loads-in, b .sown .laid .heads-in, b .sown .laid .tails-in, b .sown .laid .places-in, b .sown .laid .counts-in) }
+    let c3 = c .before .before .before in
+    let b = c3 .pre in
+    record { fits = omega (arith, c .before .loop .inv .0, c3 .good .0 .0, b .sown .laid .seeds-in, b .sown .laid .links-in, b .sown .laid .loads-in, b .sown .laid .heads-in, b .sown .laid .tails-in, b .sown .laid .places-in, b .sown .laid .counts-in) }
 
 mul-g : tie.Need-mul-g Inv-loop μ-loop
 mul-g c =
-    let b = c .before .before .before .pre in
-    omega (arith, c .loop-test .taken, c .before .loop .inv .0, c .before .before .before .good .0, b .sown .laid .seeds-in, b .sown .laid .links-in, b .sown .laid .loads-in, b .sown .laid .heads-in, b .sown .laid .tails-in, b .sown .laid .places-in, b .sown .laid .counts-in)
+    let c3 = c .before .before .before in
+    let b = c3 .pre in
+    omega (arith, c .loop-test .taken, c .before .loop .inv .0, c3 .good .0, b .sown .laid .seeds-in, b .sown .laid .links-in, b .sown .laid .loads-in, b .sown .laid .heads-in, b .sown .laid .tails-in, b .sown .laid .places-in, b .sown .laid .counts-in)
 
 slice-read-g : tie.Need-slice-read-g Inv-loop μ-loop
 slice-read-g c =
-    let b = c .before .before .before .before .pre in
+    let c4 = c .before .before .before .before in
+    let b = c4 .pre in
     omega (arith, c .before .loop-test .taken, c .before .before .loop .inv .0, c .before .before .loop .inv .2, b .sown .laid .seeds-in, b .sown .laid .links-in, b .sown .laid .loads-in, b .sown .laid .heads-in, b .sown .laid .tails-in, b .sown .laid .places-in, b .sown .laid .counts-in)
 
 seat-requires : tie.Need-seat-requires Inv-loop μ-loop
@@ -53,18 +56,22 @@ loop-less c = omega (arith, c .before .before .before .before .before .loop-test
 
 loop-again : tie.Need-loop-again Inv-loop μ-loop
 loop-again c =
-    let l = c .before .before .before .before .before .before .loop in
+    let c5 = c .before .before .before .before .before in
+    let c6 = c5 .before in
+    let c8 = c6 .before .before in
+    let a = c8 .args in
+    let l = c6 .loop in
     let w = l .work in
-    let e : l .r ≡ suc (l .r - 1) = omega (arith, c .before .before .before .before .before .loop-test .taken) in
-    let q : l .r - 1 < c .before .before .before .before .before .before .before .before .args .room .ranks = omega (arith, l .inv .0, c .before .before .before .before .before .loop-test .taken) in (
+    let e : l .r ≡ suc (l .r - 1) = omega (arith, c5 .loop-test .taken) in
+    let q : l .r - 1 < a .room .ranks = omega (arith, l .inv .0, c5 .loop-test .taken) in (
       omega (arith, l .inv .0),
       refl,
       c .before .before .seat .kept .0 ∙ l .inv .2,
       λ b.
-          let room = c .before .before .before .before .before .before .before .before .args .room in
-          let t : Seated room (c .before .before .before .before .before .before .before .before .args .work .now) w (suc (l .r - 1)) =
-          subst (Seated room (c .before .before .before .before .before .before .before .before .args .work .now) w) e (l .inv .3 b) in
-          let s : Stored room w (c .before .before .seat .last .0) (begun (owning (memoryIn room w) (l .r - 1) (at (seedsIn room (c .before .before .before .before .before .before .before .before .args .work .now)) (l .r - 1)) (at (weightsIn room w) (at (seedsIn room (c .before .before .before .before .before .before .before .before .args .work .now)) (l .r - 1)))) (l .r - 1) (at (seedsIn room (c .before .before .before .before .before .before .before .before .args .work .now)) (l .r - 1))) =
+          let room = a .room in
+          let t : Seated room (a .work .now) w (suc (l .r - 1)) =
+          subst (Seated room (a .work .now) w) e (l .inv .3 b) in
+          let s : Stored room w (c .before .before .seat .last .0) (begun (owning (memoryIn room w) (l .r - 1) (at (seedsIn room (a .work .now)) (l .r - 1)) (at (weightsIn room w) (at (seedsIn room (a .work .now)) (l .r - 1)))) (l .r - 1) (at (seedsIn room (a .work .now)) (l .r - 1))) =
           subst
           (λ (g : ℕ). Stored room w (c .before .before .seat .last .0) (begun (owning (memoryIn room w) (l .r - 1) g (at (weightsIn room w) g)) (l .r - 1) g))
           (seed-at b (l .r - 1) q t) (c .before .before .seat .ensures) in

@@ -30,12 +30,13 @@ stops-requires c κs =
 
 onward-requires : tie.Need-onward-requires Inv-loop μ-loop
 onward-requires c κs =
-    let a = c .before .before .before .before .before .before .before .before .args in
+    let c8 = c .before .before .before .before .before .before .before .before in
+    let a = c8 .args in
     let l = c .before .before .loop in
     let some : 0 < l .count =
     left-some (rowsOf (a .offsets .now) (a .neighbors .now)) (opens (a .cap) (a .weights .now) (a .owners .now) (a .load)) (l .head) (l .place) (l .count)
     (sym (c .before .stops .ensures) ∙ not-true (c .before .stops .result) (c .if1 .taken)) in
-    (c .before .before .before .before .before .before .before .before .pre .0 .lists, c .before .before .before .before .before .before .before .before .pre .1, head-in (a .links .now) (vertexCount (a .offsets .now)) (l .head) (l .count) (l .inv .inside) some, some)
+    (c8 .pre .0 .lists, c8 .pre .1, head-in (a .links .now) (vertexCount (a .offsets .now)) (l .head) (l .count) (l .inv .inside) some, some)
 
 loop-less : tie.Need-loop-less Inv-loop μ-loop
 loop-less c =

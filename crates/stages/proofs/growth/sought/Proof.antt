@@ -106,8 +106,9 @@ part-seek-end-4 c = search needs
 
 add-seek-6 : tie.Need-add-seek-6
 add-seek-6 c =
-    let h = c .before .before .before .before .before .before .before .before .before .before .pre .0 .laid in
-    record { fits = omega (arith, h .links-in, h .loads-in, h .heads-in, h .tails-in, h .places-in, h .counts-in, c .before .before .before .before .before .before .before .before .before .before .good .0) }
+    let c10 = c .before .before .before .before .before .before .before .before .before .before in
+    let h = c10 .pre .0 .laid in
+    record { fits = omega (arith, h .links-in, h .loads-in, h .heads-in, h .tails-in, h .places-in, h .counts-in, c10 .good .0) }
 
 mul-seek-5 : tie.Need-mul-seek-5
 mul-seek-5 c =
@@ -127,9 +128,10 @@ part-seek-end-5 c =
 
 seek-requires : tie.Need-seek-requires
 seek-requires c κs =
-    let a = c .before .before .before .before .before .before .before .before .before .before .before .args in
-    let d = c .before .before .before .before .before .before .before .before .before .before .before .pre .0 in
-    (lent (a .room) (a .w .now) (d .laid) (d .lists), links-length (a .room) (a .w .now) (d .laid), chain-pre d (a .r) (c .before .before .before .before .before .before .before .before .before .before .before .pre .1))
+    let c11 = c .before .before .before .before .before .before .before .before .before .before .before in
+    let a = c11 .args in
+    let d = c11 .pre .0 in
+    (lent (a .room) (a .w .now) (d .laid) (d .lists), links-length (a .room) (a .w .now) (d .laid), chain-pre d (a .r) (c11 .pre .1))
 
 returns : tie.Need-returns
 returns c =

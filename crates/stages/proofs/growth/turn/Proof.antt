@@ -45,14 +45,19 @@ same-length-2 c = search needs
 
 returns-2 : tie.Need-returns-2
 returns-2 c =
-    let p = c .before .before .before .before .before .before .before .before .before .before .before .before .before .before .pre in
-    let b = c .before .before .before .before .before .before .before .before .before .before .before .before .before .before .args in
-    let a = c .before .before .before .before .before .before .before .before .before .before .before .advance .ensures in
-    let f = c .before .before .before .before .before .restart-for in
-    let z = c .before .before .before .before .if2 .taken in
+    let c4 = c .before .before .before .before in
+    let c5 = c4 .before in
+    let c8 = c5 .before .before .before in
+    let c11 = c8 .before .before .before in
+    let c14 = c11 .before .before .before in
+    let p = c14 .pre in
+    let b = c14 .args in
+    let a = c11 .advance .ensures in
+    let f = c5 .restart-for in
+    let z = c4 .if2 .taken in
     let o = restart-open (b .cap) (b .r) (a .ready) (p .1) (f .result) (f .ensures .0) z in
     let m = c .before .before .claim2 .ensures in (
-      turn-restart (p .0) (p .1) a (f .result) m o (c .before .before .before .before .before .before .before .before .if1 .left) (restart-some (b .cap) (b .r) (a .ready) (p .1) (f .result) (f .ensures .0) z),
+      turn-restart (p .0) (p .1) a (f .result) m o (c8 .if1 .left) (restart-some (b .cap) (b .r) (a .ready) (p .1) (f .result) (f .ensures .0) z),
       behind-claimed (a .ready) (p .1) m o (f .ensures .1),
     )
 

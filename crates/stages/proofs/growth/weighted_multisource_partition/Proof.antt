@@ -30,28 +30,45 @@ farthest-seeds-requires : tie.Need-farthest-seeds-requires
 farthest-seeds-requires c κs = seedable (c .before .before .before .before .before .before .pre) (c .before .if2 .left)
 
 order-by-degree-requires : tie.Need-order-by-degree-requires
-order-by-degree-requires c κs = orderable (c .before .before .before .before .before .before .before .before .before .before .pre) (c .before .before .before .before .before .if2 .left) (c .before .before .before .farthest-seeds .ensures)
+order-by-degree-requires c κs =
+    let c3 = c .before .before .before in
+    let c5 = c3 .before .before in
+    let c10 = c5 .before .before .before .before .before in
+    orderable (c10 .pre) (c5 .if2 .left) (c3 .farthest-seeds .ensures)
 
 room-at-requires : tie.Need-room-at-requires
-room-at-requires c κs = omega (arith, c .before .before .before .before .before .before .before .before .before .before .before .before .before .before .pre .room, c .before .before .before .before .before .before .before .before .before .before .before .before .before .before .good .0)
+room-at-requires c κs =
+    let c14 = c .before .before .before .before .before .before .before .before .before .before .before .before .before .before in
+    omega (arith, c14 .pre .room, c14 .good .0)
 
 multisource-requires : tie.Need-multisource-requires
 multisource-requires c κs =
-    subst (λ (l : GrowthRoom). Sown l (c .before .before .before .before .order-by-degree .last .0)) (sym (c .room-at .ensures))
-    (sown (c .before .before .before .before .before .before .before .before .before .before .before .before .before .before .before .pre) (c .before .before .before .before .before .before .before .before .before .before .if2 .left) (c .before .before .before .before .before .before .before .before .farthest-seeds .ensures) (c .before .before .before .before .order-by-degree .ensures))
+    let c4 = c .before .before .before .before in
+    let c8 = c4 .before .before .before .before in
+    let c10 = c8 .before .before in
+    let c15 = c10 .before .before .before .before .before in
+    subst (λ (l : GrowthRoom). Sown l (c4 .order-by-degree .last .0)) (sym (c .room-at .ensures))
+    (sown (c15 .pre) (c10 .if2 .left) (c8 .farthest-seeds .ensures) (c4 .order-by-degree .ensures))
 
 same-length-3 : tie.Need-same-length-3
 same-length-3 c = search needs
 
 returns-3 : tie.Need-returns-3
 returns-3 c =
-    let a = c .before .before .before .before .before .before .before .before .before .before .before .before .before .before .before .before .before .before .args in
-    let w = c .before .before .before .before .before .before .before .order-by-degree .last .0 in
+    let c3 = c .before .before .before in
+    let c7 = c3 .before .before .before .before in
+    let c11 = c7 .before .before .before .before in
+    let c13 = c11 .before .before in
+    let c14 = c13 .before in
+    let c15 = c14 .before in
+    let c18 = c15 .before .before .before in
+    let a = c18 .args in
+    let w = c7 .order-by-degree .last .0 in
     let m = c .before .before .multisource in
     let M : Multisource (roomAt (a .l) (a .scratch) (a .ranks)) (a .cap) w (m .last .0) (m .result) =
-    subst (λ (l : GrowthRoom). Multisource l (a .cap) w (m .last .0) (m .result)) (c .before .before .before .room-at .ensures) (m .ensures) in
-    told-grown (c .before .before .before .before .before .before .before .before .before .before .before .before .before .before .before .before .before .before .pre) (c .before .before .before .before .before .before .before .before .before .before .before .before .before .if2 .left) (c .before .before .before .before .before .before .before .before .before .before .before .farthest-seeds .ensures) (c .before .before .before .before .before .before .before .order-by-degree .ensures) (a .cap)
-    (sym (c .before .before .before .before .before .before .before .before .before .before .before .before .before .before .before .heavy-in .ensures) ∙ c .before .before .before .before .before .before .before .before .before .before .before .before .before .before .if1 .left) M
+    subst (λ (l : GrowthRoom). Multisource l (a .cap) w (m .last .0) (m .result)) (c3 .room-at .ensures) (m .ensures) in
+    told-grown (c18 .pre) (c13 .if2 .left) (c11 .farthest-seeds .ensures) (c7 .order-by-degree .ensures) (a .cap)
+    (sym (c15 .heavy-in .ensures) ∙ c14 .if1 .left) M
 
 pub weighted-multisource-partition-spec : {M : Type 1} → statement M
 weighted-multisource-partition-spec =

@@ -62,11 +62,14 @@ owner-at-requires c κs =
     (s .args .work .now)) (l .i) (l .inv .0) (omega (arith, c .loop-test .taken, l .inv .2))
 
 add-tempts : tie.Need-add-tempts Inv-loop μ-loop
-add-tempts c = let h = within c in record { fits = omega (arith, c .before .before .before .before .before .before .before .before .pre .0 .room, c .before .before .before .before .before .before .before .before .good .0 .0) }
+add-tempts c =
+    let c8 = c .before .before .before .before .before .before .before .before in
+    let h = within c in record { fits = omega (arith, c8 .pre .0 .room, c8 .good .0 .0) }
 
 mul-tempts : tie.Need-mul-tempts Inv-loop μ-loop
 mul-tempts c =
-    let h : c .before .before .before .before .before .before .before .before .args .scratch + c .owner-at .result < length (c .before .before .before .before .before .before .before .before .args .work .now) = (let k = within c in omega (arith, c .before .before .before .before .before .before .before .before .pre .0 .room)) in
+    let c8 = c .before .before .before .before .before .before .before .before in
+    let h : c8 .args .scratch + c .owner-at .result < length (c8 .args .work .now) = (let k = within c in omega (arith, c8 .pre .0 .room)) in
     search needs
 
 shared-slice-read-tempts : tie.Need-shared-slice-read-tempts Inv-loop μ-loop
@@ -77,12 +80,18 @@ tempts-requires c κs = search needs
 
 returns : tie.Need-returns Inv-loop μ-loop
 returns c =
-    let s = c .before .before .before .before .before .before .before .before .before .before .before in
-    let l = c .before .before .before .before .before .loop in
-    let r = c .before .before .before .owner-at in
+    let c3 = c .before .before .before in
+    let c4 = c3 .before in
+    let c5 = c4 .before in
+    let c8 = c5 .before .before .before in
+    let c9 = c8 .before in
+    let c11 = c9 .before .before in
+    let s = c11 in
+    let l = c5 .loop in
+    let r = c3 .owner-at in
     let t = c .before .tempts in
-    tempted-here (s .args .limits) (s .pre .0) (s .args .v) (s .pre .1) (c .before .before .before .before .before .before .before .before .owner-in .result) (c .before .before .before .before .before .before .before .before .before .weight-in .result) (l .i) (r .result)
-    (c .before .before .before .before .before .before .before .before .owner-in .ensures) (c .before .before .before .before .before .before .before .before .before .weight-in .ensures) (omega (arith, c .before .before .before .before .loop-test .taken, l .inv .2)) (r .ensures) (within (c .before .before .before)) (t .result)
+    tempted-here (s .args .limits) (s .pre .0) (s .args .v) (s .pre .1) (c8 .owner-in .result) (c9 .weight-in .result) (l .i) (r .result)
+    (c8 .owner-in .ensures) (c9 .weight-in .ensures) (omega (arith, c4 .loop-test .taken, l .inv .2)) (r .ensures) (within (c3)) (t .result)
     (t .ensures) (l .inv .3) (c .if1 .taken)
 
 add-i : tie.Need-add-i Inv-loop μ-loop
@@ -93,15 +102,21 @@ loop-less c = search needs
 
 loop-again : tie.Need-loop-again Inv-loop μ-loop
 loop-again c =
-    let s = c .before .before .before .before .before .before .before .before .before .before .before in
-    let l = c .before .before .before .before .before .loop in
-    let r = c .before .before .before .owner-at in
+    let c3 = c .before .before .before in
+    let c4 = c3 .before in
+    let c5 = c4 .before in
+    let c8 = c5 .before .before .before in
+    let c9 = c8 .before in
+    let c11 = c9 .before .before in
+    let s = c11 in
+    let l = c5 .loop in
+    let r = c3 .owner-at in
     let t = c .before .tempts in (
       omega (arith, l .inv .0),
-      omega (arith, c .before .before .before .before .loop-test .taken),
+      omega (arith, c4 .loop-test .taken),
       l .inv .2,
-      tempted-next (s .args .limits) (s .pre .0) (s .args .v) (s .pre .1) (c .before .before .before .before .before .before .before .before .owner-in .result) (c .before .before .before .before .before .before .before .before .before .weight-in .result) (l .i) (r .result)
-          (c .before .before .before .before .before .before .before .before .owner-in .ensures) (c .before .before .before .before .before .before .before .before .before .weight-in .ensures) (omega (arith, c .before .before .before .before .loop-test .taken, l .inv .2)) (r .ensures) (within (c .before .before .before)) (t .result)
+      tempted-next (s .args .limits) (s .pre .0) (s .args .v) (s .pre .1) (c8 .owner-in .result) (c9 .weight-in .result) (l .i) (r .result)
+          (c8 .owner-in .ensures) (c9 .weight-in .ensures) (omega (arith, c4 .loop-test .taken, l .inv .2)) (r .ensures) (within (c3)) (t .result)
           (t .ensures) (l .inv .3) (c .if1 .left),
     )
 

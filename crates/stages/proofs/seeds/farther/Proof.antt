@@ -49,7 +49,8 @@ mul-b c = search needs
 
 shared-slice-read-b : tie.Need-shared-slice-read-b
 shared-slice-read-b c =
-    omega (arith, one (c .before .before .before .before .before .before .before .args .best) (c .before .before .before .before .before .before .before .args .l .vertices) (c .before .before .if2 .left) (c .before .before .before .before .before .before .before .pre .2), c .before .index2 .ensures, c .before .before .before .before .before .before .before .pre .0 .distances-in)
+    let c7 = c .before .before .before .before .before .before .before in
+    omega (arith, one (c7 .args .best) (c7 .args .l .vertices) (c .before .before .if2 .left) (c7 .pre .2), c .before .index2 .ensures, c7 .pre .0 .distances-in)
 
 returns-3 : tie.Need-returns-3
 returns-3 c =
@@ -61,7 +62,9 @@ returns-3 c =
 
 degree-of-requires : tie.Need-degree-of-requires
 degree-of-requires c κs =
-    (c .before .before .before .before .before .before .before .before .before .pre .0, one (c .before .before .before .before .before .before .before .before .before .args .best) (c .before .before .before .before .before .before .before .before .before .args .l .vertices) (c .before .before .before .before .if2 .left) (c .before .before .before .before .before .before .before .before .before .pre .2))
+    let c4 = c .before .before .before .before in
+    let c9 = c4 .before .before .before .before .before in
+    (c9 .pre .0, one (c9 .args .best) (c9 .args .l .vertices) (c4 .if2 .left) (c9 .pre .2))
 
 degree-of-requires-2 : tie.Need-degree-of-requires-2
 degree-of-requires-2 c κs = search needs

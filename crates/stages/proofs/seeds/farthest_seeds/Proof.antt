@@ -43,56 +43,76 @@ next-seed-requires c κs =
 
 add-work : tie.Need-add-work Inv-loop μ-loop
 add-work c =
+    let c3 = c .before .before .before in
+    let c6 = c3 .before .before .before in
+    let c9 = c6 .before .before .before in
     let h =
-    at-seed (c .before .before .before .before .before .before .before .before .before .pre)
-    (c .before .before .before .loop .inv .3 _ (c .before .before .before .before .before .before .before .before .before .pre) (c .before .before .before .before .before .before .fill-part .ensures))
+    at-seed (c9 .pre)
+    (c3 .loop .inv .3 _ (c9 .pre) (c6 .fill-part .ensures))
     (c .before .before .loop-test .taken) in
-    record { fits = omega (arith, c .before .before .before .loop .inv .2, c .before .before .before .before .before .before .fill-part .kept .0, c .before .before .before .before .before .before .before .before .before .good .0 .0) }
+    record { fits = omega (arith, c3 .loop .inv .2, c6 .fill-part .kept .0, c9 .good .0 .0) }
 
 mul-work : tie.Need-mul-work Inv-loop μ-loop
 mul-work c =
+    let c3 = c .before .before .before in
+    let c6 = c3 .before .before .before in
+    let c9 = c6 .before .before .before in
     let h =
-    at-seed (c .before .before .before .before .before .before .before .before .before .pre)
-    (c .before .before .before .loop .inv .3 _ (c .before .before .before .before .before .before .before .before .before .pre) (c .before .before .before .before .before .before .fill-part .ensures))
+    at-seed (c9 .pre)
+    (c3 .loop .inv .3 _ (c9 .pre) (c6 .fill-part .ensures))
     (c .before .before .loop-test .taken) in
-    omega (arith, c .before .before .before .loop .inv .2, c .before .before .before .before .before .before .fill-part .kept .0, c .before .before .before .before .before .before .before .before .before .good .0)
+    omega (arith, c3 .loop .inv .2, c6 .fill-part .kept .0, c9 .good .0)
 
 slice-write-work : tie.Need-slice-write-work Inv-loop μ-loop
 slice-write-work c =
-    at-seed (c .before .before .before .before .before .before .before .before .before .pre)
-    (c .before .before .before .loop .inv .3 _ (c .before .before .before .before .before .before .before .before .before .pre) (c .before .before .before .before .before .before .fill-part .ensures))
+    let c3 = c .before .before .before in
+    let c6 = c3 .before .before .before in
+    let c9 = c6 .before .before .before in
+    at-seed (c9 .pre)
+    (c3 .loop .inv .3 _ (c9 .pre) (c6 .fill-part .ensures))
     (c .before .before .loop-test .taken)
 
 lower-requires : tie.Need-lower-requires Inv-loop μ-loop
 lower-requires c κs =
+    let c3 = c .before .before .before in
+    let c4 = c3 .before in
+    let c7 = c4 .before .before .before in
+    let c10 = c7 .before .before .before in
     let K =
-    c .before .before .before .before .loop .inv .3 _ (c .before .before .before .before .before .before .before .before .before .before .pre)
-    (c .before .before .before .before .before .before .before .fill-part .ensures) in
-    (searchFor (rowsAt (c .before .before .before .before .before .before .before .before .before .before .args .work .now) (c .before .before .before .before .before .before .before .before .before .before .args .l)) (c .before .before .before .before .loop .r), picks (c .before .before .before .before .before .before .before .before .before .before .pre) K _ (c .before .before .before .loop-test .taken) (c .before .next-seed .ensures))
+    c4 .loop .inv .3 _ (c10 .pre)
+    (c7 .fill-part .ensures) in
+    (searchFor (rowsAt (c10 .args .work .now) (c10 .args .l)) (c4 .loop .r), picks (c10 .pre) K _ (c3 .loop-test .taken) (c .before .next-seed .ensures))
 
 add-r : tie.Need-add-r Inv-loop μ-loop
 add-r c =
-    record { fits = omega (arith, c .before .before .before .before .before .before .loop-test .taken, c .before .before .before .before .before .before .before .before .before .before .before .before .before .fits) }
+    let c6 = c .before .before .before .before .before .before in
+    let c13 = c6 .before .before .before .before .before .before .before in
+    record { fits = omega (arith, c6 .loop-test .taken, c13 .fits) }
 
 loop-less : tie.Need-loop-less Inv-loop μ-loop
 loop-less c = omega arith
 
 loop-again : tie.Need-loop-again Inv-loop μ-loop
 loop-again c =
-    let l = c .before .before .before .before .before .before .before .loop in
-    let t = c .before .before .before .before .before .before .loop-test .taken in
-    let s = c .before .before .before .before .next-seed in (
+    let c4 = c .before .before .before .before in
+    let c6 = c4 .before .before in
+    let c7 = c6 .before in
+    let c13 = c7 .before .before .before .before .before .before in
+    let a = c13 .args in
+    let l = c7 .loop in
+    let t = c6 .loop-test .taken in
+    let s = c4 .next-seed in (
       refl,
       omega arith,
       c .before .before .lower .kept .0
           ∙ length-set (l .work)
-          (c .before .before .before .before .before .before .before .before .before .before .before .before .before .args .scratch + 2 * c .before .before .before .before .before .before .before .before .before .before .before .before .before .args .l .vertices + l .r)
+          (a .scratch + 2 * a .l .vertices + l .r)
           (s .result)
           ∙ l .inv .2,
       λ w P e.
           let K = l .inv .3 w P e in
           picked P K _ t (s .ensures)
-          (c .before .before .lower .ensures (searchFor (rowsAt w (c .before .before .before .before .before .before .before .before .before .before .before .before .before .args .l)) (l .r)) (picks P K _ t (s .ensures))),
+          (c .before .before .lower .ensures (searchFor (rowsAt w (a .l)) (l .r)) (picks P K _ t (s .ensures))),
     )
 
 same-length : tie.Need-same-length Inv-loop μ-loop

@@ -73,20 +73,27 @@ scan-requires c κs =
 
 add-h : tie.Need-add-h Inv-loop μ-loop
 add-h c =
+    let c6 = c .before .before .before .before .before .before in
+    let c7 = c6 .before in
+    let c10 = c7 .before .before .before in
     let h =
-    tail-le (c .before .before .before .before .before .before .before .before .before .before .pre .1)
-    (c .before .before .before .before .before .before .before .loop .inv .2 (c .before .before .before .before .before .before .before .before .before .before .pre .0) _ (c .before .before .before .before .before .before .before .before .before .before .pre .1) refl) in
-    record { fits = omega (arith, c .before .before .before .before .before .before .loop-test .taken, c .before .before .before .before .before .before .before .before .before .before .good .0 .0) }
+    tail-le (c10 .pre .1)
+    (c7 .loop .inv .2 (c10 .pre .0) _ (c10 .pre .1) refl) in
+    record { fits = omega (arith, c6 .loop-test .taken, c10 .good .0 .0) }
 
 loop-less : tie.Need-loop-less Inv-loop μ-loop
 loop-less c =
-    let a = c .before .before .before .before .before .before .before .before .before .before .args in
+    let c6 = c .before .before .before .before .before .before in
+    let c7 = c6 .before in
+    let c8 = c7 .before in
+    let c10 = c8 .before .before in
+    let a = c10 .args in
     let h =
-    tail-le (c .before .before .before .before .before .before .before .before .before .before .pre .1)
-    (c .before .before .before .before .before .before .before .loop .inv .2 (c .before .before .before .before .before .before .before .before .before .before .pre .0) _ (c .before .before .before .before .before .before .before .before .before .before .pre .1) refl) in
-    let e : length (set (set (a .work .now) (a .scratch + c .before .before .before .before .before .before .before .before .index .result) 0) (a .scratch + a .l .vertices) (a .s)) ≡ length (a .work .now) =
+    tail-le (c10 .pre .1)
+    (c7 .loop .inv .2 (c10 .pre .0) _ (c10 .pre .1) refl) in
+    let e : length (set (set (a .work .now) (a .scratch + c8 .index .result) 0) (a .scratch + a .l .vertices) (a .s)) ≡ length (a .work .now) =
     simp length-set in
-    omega (arith, c .before .before .before .before .before .before .loop-test .taken)
+    omega (arith, c6 .loop-test .taken)
 
 loop-again : tie.Need-loop-again Inv-loop μ-loop
 loop-again c =

@@ -41,7 +41,8 @@ loop-less c = search needs
 
 loop-again : tie.Need-loop-again Inv-loop μ-loop
 loop-again c =
-    let a = c .before .before .before .before .args in
+    let c4 = c .before .before .before .before in
+    let a = c4 .args in
     let d : ℕ → ℕ = from (a .work .now) (a .scratch) in
     let deg : ℕ → ℕ = degreeAt (a .work .now) (a .l) in
     let l = c .before .before .loop in
@@ -49,7 +50,7 @@ loop-again c =
       refl,
       omega arith,
       rw e (step-in (ahead d deg) (unseeded d) (l .best) (l .i) (a .l .vertices) (omega arith) (l .inv .2)),
-      rw (e, held-step (ahead d deg) (unseeded d) (l .best) (l .i) (omega (arith, c .before .before .before .before .pre .few))) (sym (one-more (ahead d deg) (unseeded d) (a .l .vertices) (l .i) (held (l .best)) (omega arith)) ∙ l .inv .3),
+      rw (e, held-step (ahead d deg) (unseeded d) (l .best) (l .i) (omega (arith, c4 .pre .few))) (sym (one-more (ahead d deg) (unseeded d) (a .l .vertices) (l .i) (held (l .best)) (omega arith)) ∙ l .inv .3),
     )
 
 returns : tie.Need-returns Inv-loop μ-loop

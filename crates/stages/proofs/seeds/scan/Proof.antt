@@ -85,7 +85,8 @@ mul-x c =
 
 slice-read-x : tie.Need-slice-read-x Inv-loop μ-loop
 slice-read-x c =
-    omega (arith, at-neighbor-in (c .before .before .before .before .before .before .before .before .before .pre .2) (c .before .before .loop .j) (rw (c .before .before .loop .inv .2) at (c .before .loop-test .taken)), c .before .before .loop .inv .4)
+    let c9 = c .before .before .before .before .before .before .before .before .before in
+    omega (arith, at-neighbor-in (c9 .pre .2) (c .before .before .loop .j) (rw (c .before .before .loop .inv .2) at (c .before .loop-test .taken)), c .before .before .loop .inv .4)
 
 relax-requires : tie.Need-relax-requires Inv-loop μ-loop
 relax-requires c κs =
@@ -106,7 +107,11 @@ loop-less c = omega arith
 
 loop-again : tie.Need-loop-again Inv-loop μ-loop
 loop-again c =
-    let l = c .before .before .before .before .before .before .loop in
+    let c5 = c .before .before .before .before .before in
+    let c6 = c5 .before in
+    let c13 = c6 .before .before .before .before .before .before .before in
+    let a = c13 .args in
+    let l = c6 .loop in
     let r = c .before .before .relax in (
       refl,
       refl,
@@ -115,7 +120,7 @@ loop-again c =
       r .kept .0 ∙ l .inv .4,
       λ g h P.
           rw (r .ensures .tail, r .ensures .after)
-          (scan-turn P (l .j) (l .inv .3) (rw (l .inv .2) at (c .before .before .before .before .before .loop-test .taken)) (l .inv .5 g h P) (from (l .work) (c .before .before .before .before .before .before .before .before .before .before .before .before .before .args .l .neighbors) (l .j)) (from (c .before .before .before .before .before .before .before .before .before .before .before .before .before .args .work .now) (c .before .before .before .before .before .before .before .before .before .before .before .before .before .args .scratch) (c .before .before .before .before .before .before .before .before .before .before .before .before .before .args .u)) refl refl),
+          (scan-turn P (l .j) (l .inv .3) (rw (l .inv .2) at (c5 .loop-test .taken)) (l .inv .5 g h P) (from (l .work) (a .l .neighbors) (l .j)) (from (a .work .now) (a .scratch) (a .u)) refl refl),
     )
 
 same-length : tie.Need-same-length Inv-loop μ-loop

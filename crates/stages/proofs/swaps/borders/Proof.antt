@@ -65,13 +65,16 @@ loop-less c = search needs
 
 loop-again : tie.Need-loop-again Inv-loop μ-loop
 loop-again c =
-    let s = c .before .before .before .before .before .before .before .before in
-    let l = c .before .before .before .loop in
+    let c3 = c .before .before .before in
+    let c6 = c3 .before .before .before in
+    let c8 = c6 .before .before in
+    let s = c8 in
+    let l = c3 .loop in
     let r = c .before .owner-at in (
       omega (arith, l .inv .0),
       omega (arith, c .before .before .loop-test .taken),
       l .inv .2,
-      border-next (s .pre .0) (s .pre .1) (c .before .before .before .before .before .before .owner-in .result) (l .i) (r .result) (c .before .before .before .before .before .before .owner-in .ensures)
+      border-next (s .pre .0) (s .pre .1) (c6 .owner-in .result) (l .i) (r .result) (c6 .owner-in .ensures)
           (omega (arith, c .before .before .loop-test .taken, l .inv .2)) (r .ensures) (l .inv .3) (c .if1 .left),
     )
 

@@ -23,14 +23,17 @@ wide-requires c κs = search needs
 returns : tie.Need-returns
 unfolding inBalance
 returns c =
-    let a = c .before .before .before .before .before .args in
-    under-floor (a .s .limits .floor) (a .s .limits .cap) (c .before .before .wide .result) (load (weightsAt (a .w .now) (a .s .level)) (ownersAt (a .w .now) (a .s .level)) (a .r)) (c .before .before .wide .ensures ∙ c .before .before .before .before .before .pre .0 .loaded (a .r) (c .before .before .before .before .before .pre .1)) (c .if1 .taken)
+    let c5 = c .before .before .before .before .before in
+    let a = c5 .args in
+    under-floor (a .s .limits .floor) (a .s .limits .cap) (c .before .before .wide .result) (load (weightsAt (a .w .now) (a .s .level)) (ownersAt (a .w .now) (a .s .level)) (a .r)) (c .before .before .wide .ensures ∙ c5 .pre .0 .loaded (a .r) (c5 .pre .1)) (c .if1 .taken)
 
 returns-2 : tie.Need-returns-2
 unfolding inBalance
 returns-2 c =
-    let a = c .before .before .before .before .before .before .args in
-    from-floor (a .s .limits .floor) (a .s .limits .cap) (c .before .before .before .wide .result) (load (weightsAt (a .w .now) (a .s .level)) (ownersAt (a .w .now) (a .s .level)) (a .r)) (c .before .before .before .wide .ensures ∙ c .before .before .before .before .before .before .pre .0 .loaded (a .r) (c .before .before .before .before .before .before .pre .1)) (c .before .if1 .left)
+    let c3 = c .before .before .before in
+    let c6 = c3 .before .before .before in
+    let a = c6 .args in
+    from-floor (a .s .limits .floor) (a .s .limits .cap) (c3 .wide .result) (load (weightsAt (a .w .now) (a .s .level)) (ownersAt (a .w .now) (a .s .level)) (a .r)) (c3 .wide .ensures ∙ c6 .pre .0 .loaded (a .r) (c6 .pre .1)) (c .before .if1 .left)
 
 pub in-balance-spec : {M : Type 1} → statement M
 in-balance-spec =

@@ -21,8 +21,9 @@ holds-requires c κs = search needs
 -- the row is rising, so that the search finds what is there
 told : (c : tie.After-holds) → c .holds .result ≡ elem (c .before .before .before .args .v) (row (rowsAt (c .before .before .before .args .w .now) (c .before .before .before .args .s .level)) (c .before .before .before .args .u))
 told c =
-    let a = c .before .before .before .args in
-    c .holds .ensures ∙ rw (c .before .row-of .ensures) (found-elem (row (rowsAt (a .w .now) (a .s .level)) (a .u)) (a .v) (row-sorted (c .before .before .before .pre .0) (a .u) (c .before .before .before .pre .1)))
+    let c3 = c .before .before .before in
+    let a = c3 .args in
+    c .holds .ensures ∙ rw (c .before .row-of .ensures) (found-elem (row (rowsAt (a .w .now) (a .s .level)) (a .u)) (a .v) (row-sorted (c3 .pre .0) (a .u) (c3 .pre .1)))
 
 returns : tie.Need-returns
 unfolding linked

@@ -64,8 +64,9 @@ loop-again c =
 
 returns : tie.Need-returns Inv-loop μ-loop
 returns c =
+    let c4 = c .before .before .before .before in
     let l = c .before .loop in
-    let a = c .before .before .before .before .args in
+    let a = c4 .args in
     let e : l .i ≡ length (a .row .now) = omega arith in
     (omega arith, omega (arith, links-none (a .row .now) (a .owners .now) (length (a .row .now)) (a .r), ap (λ (i : ℕ). linksIn (part (a .row .now) i (length (a .row .now))) (a .owners .now) (a .r)) e))
 

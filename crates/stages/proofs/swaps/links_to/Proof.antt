@@ -31,14 +31,17 @@ part-links-in-end c = search needs
 
 links-in-requires : tie.Need-links-in-requires
 links-in-requires c κs =
+    let c4 = c .before .before .before .before in
     let e = c .before .row-of .ensures in
-    (rw e (row-few (c .before .before .before .before .pre .0) (c .before .before .before .before .args .v) (c .before .before .before .before .pre .1)), rw e (row-under (c .before .before .before .before .pre .0) (c .before .before .before .before .args .v) (c .before .before .before .before .pre .1)))
+    (rw e (row-few (c4 .pre .0) (c4 .args .v) (c4 .pre .1)), rw e (row-under (c4 .pre .0) (c4 .args .v) (c4 .pre .1)))
 
 returns : tie.Need-returns
 returns c =
+    let c5 = c .before .before .before .before .before in
+    let a = c5 .args in
     let e = c .before .before .row-of .ensures in (
-      omega (arith, ap length e, row-few (c .before .before .before .before .before .pre .0) (c .before .before .before .before .before .args .v) (c .before .before .before .before .before .pre .1), c .links-in .ensures .0),
-      c .links-in .ensures .1 ∙ ap (λ (z : List ℕ). linksIn z (ownersAt (c .before .before .before .before .before .args .w .now) (c .before .before .before .before .before .args .s .level)) (c .before .before .before .before .before .args .r)) e,
+      omega (arith, ap length e, row-few (c5 .pre .0) (a .v) (c5 .pre .1), c .links-in .ensures .0),
+      c .links-in .ensures .1 ∙ ap (λ (z : List ℕ). linksIn z (ownersAt (a .w .now) (a .s .level)) (a .r)) e,
     )
 
 pub links-to-spec : {M : Type 1} → statement M

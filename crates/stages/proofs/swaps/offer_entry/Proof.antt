@@ -22,24 +22,33 @@ returns c = entry-own (c .before .owner-at .result) (c .before .owner-at .ensure
 
 add-there : tie.Need-add-there
 add-there c =
-    let r : c .before .owner-at .result < c .before .before .before .before .args .s .limits .ranks = rw (c .before .owner-at .ensures) (c .before .before .before .before .pre .0 .ranked (at (neighborsAt (c .before .before .before .before .args .work .now) (c .before .before .before .before .args .s .level)) (c .before .before .before .before .args .i)) (c .before .before .before .before .pre .3)) in
+    let c4 = c .before .before .before .before in
+    let a = c4 .args in
+    let r : c .before .owner-at .result < a .s .limits .ranks = rw (c .before .owner-at .ensures) (c4 .pre .0 .ranked (at (neighborsAt (a .work .now) (a .s .level)) (a .i)) (c4 .pre .3)) in
     omega arith
 
 mul-there : tie.Need-mul-there
 mul-there c =
-    let r : c .before .owner-at .result < c .before .before .before .before .args .s .limits .ranks = rw (c .before .owner-at .ensures) (c .before .before .before .before .pre .0 .ranked (at (neighborsAt (c .before .before .before .before .args .work .now) (c .before .before .before .before .args .s .level)) (c .before .before .before .before .args .i)) (c .before .before .before .before .pre .3)) in
+    let c4 = c .before .before .before .before in
+    let a = c4 .args in
+    let r : c .before .owner-at .result < a .s .limits .ranks = rw (c .before .owner-at .ensures) (c4 .pre .0 .ranked (at (neighborsAt (a .work .now) (a .s .level)) (a .i)) (c4 .pre .3)) in
     omega arith
 
 slice-read-there : tie.Need-slice-read-there
 slice-read-there c =
-    let r : c .before .before .owner-at .result < c .before .before .before .before .before .args .s .limits .ranks = rw (c .before .before .owner-at .ensures) (c .before .before .before .before .before .pre .0 .ranked (at (neighborsAt (c .before .before .before .before .before .args .work .now) (c .before .before .before .before .before .args .s .level)) (c .before .before .before .before .before .args .i)) (c .before .before .before .before .before .pre .3)) in
+    let c5 = c .before .before .before .before .before in
+    let a = c5 .args in
+    let r : c .before .before .owner-at .result < a .s .limits .ranks = rw (c .before .before .owner-at .ensures) (c5 .pre .0 .ranked (at (neighborsAt (a .work .now) (a .s .level)) (a .i)) (c5 .pre .3)) in
     omega arith
 
 same-length-2 : tie.Need-same-length-2
 same-length-2 c = search needs
 
 returns-2 : tie.Need-returns-2
-returns-2 c = entry-met (c .before .before .before .owner-at .result) (c .before .before .before .owner-at .ensures) (c .before .before .before .before .before .before .pre .4) (c .before .before .if1 .left) (c .if2 .taken)
+returns-2 c =
+    let c3 = c .before .before .before in
+    let c6 = c3 .before .before .before in
+    entry-met (c3 .owner-at .result) (c3 .owner-at .ensures) (c6 .pre .4) (c .before .before .if1 .left) (c .if2 .taken)
 
 add-home : tie.Need-add-home
 add-home c = search needs
@@ -52,23 +61,35 @@ slice-read-home c = search needs
 
 add-work : tie.Need-add-work
 add-work c =
-    let r : c .before .before .before .before .owner-at .result < c .before .before .before .before .before .before .before .args .s .limits .ranks = rw (c .before .before .before .before .owner-at .ensures) (c .before .before .before .before .before .before .before .pre .0 .ranked (at (neighborsAt (c .before .before .before .before .before .before .before .args .work .now) (c .before .before .before .before .before .before .before .args .s .level)) (c .before .before .before .before .before .before .before .args .i)) (c .before .before .before .before .before .before .before .pre .3)) in
+    let c4 = c .before .before .before .before in
+    let c7 = c4 .before .before .before in
+    let a = c7 .args in
+    let r : c4 .owner-at .result < a .s .limits .ranks = rw (c4 .owner-at .ensures) (c7 .pre .0 .ranked (at (neighborsAt (a .work .now) (a .s .level)) (a .i)) (c7 .pre .3)) in
     omega arith
 
 mul-work : tie.Need-mul-work
 mul-work c =
-    let r : c .before .before .before .before .owner-at .result < c .before .before .before .before .before .before .before .args .s .limits .ranks = rw (c .before .before .before .before .owner-at .ensures) (c .before .before .before .before .before .before .before .pre .0 .ranked (at (neighborsAt (c .before .before .before .before .before .before .before .args .work .now) (c .before .before .before .before .before .before .before .args .s .level)) (c .before .before .before .before .before .before .before .args .i)) (c .before .before .before .before .before .before .before .pre .3)) in
+    let c4 = c .before .before .before .before in
+    let c7 = c4 .before .before .before in
+    let a = c7 .args in
+    let r : c4 .owner-at .result < a .s .limits .ranks = rw (c4 .owner-at .ensures) (c7 .pre .0 .ranked (at (neighborsAt (a .work .now) (a .s .level)) (a .i)) (c7 .pre .3)) in
     omega arith
 
 slice-write-work : tie.Need-slice-write-work
 slice-write-work c =
-    let r : c .before .before .before .before .owner-at .result < c .before .before .before .before .before .before .before .args .s .limits .ranks = rw (c .before .before .before .before .owner-at .ensures) (c .before .before .before .before .before .before .before .pre .0 .ranked (at (neighborsAt (c .before .before .before .before .before .before .before .args .work .now) (c .before .before .before .before .before .before .before .args .s .level)) (c .before .before .before .before .before .before .before .args .i)) (c .before .before .before .before .before .before .before .pre .3)) in
+    let c4 = c .before .before .before .before in
+    let c7 = c4 .before .before .before in
+    let a = c7 .args in
+    let r : c4 .owner-at .result < a .s .limits .ranks = rw (c4 .owner-at .ensures) (c7 .pre .0 .ranked (at (neighborsAt (a .work .now) (a .s .level)) (a .i)) (c7 .pre .3)) in
     omega arith
 
 list-at-requires : tie.Need-list-at-requires
 list-at-requires c κs =
-    let r : c .before .before .before .before .before .owner-at .result < c .before .before .before .before .before .before .before .before .args .s .limits .ranks = rw (c .before .before .before .before .before .owner-at .ensures) (c .before .before .before .before .before .before .before .before .pre .0 .ranked (at (neighborsAt (c .before .before .before .before .before .before .before .before .args .work .now) (c .before .before .before .before .before .before .before .before .args .s .level)) (c .before .before .before .before .before .before .before .before .args .i)) (c .before .before .before .before .before .before .before .before .pre .3)) in
-    (c .before .before .before .before .before .before .before .before .pre .1, r, omega (arith, c .before .before .before .before .before .before .before .before .pre .0 .lists-in))
+    let c5 = c .before .before .before .before .before in
+    let c8 = c5 .before .before .before in
+    let a = c8 .args in
+    let r : c5 .owner-at .result < a .s .limits .ranks = rw (c5 .owner-at .ensures) (c8 .pre .0 .ranked (at (neighborsAt (a .work .now) (a .s .level)) (a .i)) (c8 .pre .3)) in
+    (c8 .pre .1, r, omega (arith, c8 .pre .0 .lists-in))
 
 offer-part-requires : tie.Need-offer-part-requires
 offer-part-requires c κs =
@@ -82,13 +103,21 @@ offer-part-requires c κs =
     )
 
 same-length-3 : tie.Need-same-length-3
-same-length-3 c = c .before .before .offer-part .ensures .kept .same-length ∙ length-set (c .before .before .before .before .before .before .before .before .before .before .before .before .args .work .now) (c .before .before .before .before .before .before .before .before .before .before .before .before .args .s .tallies + c .before .before .before .before .before .before .before .before .before .owner-at .result) 0
+same-length-3 c =
+    let c9 = c .before .before .before .before .before .before .before .before .before in
+    let c12 = c9 .before .before .before in
+    c .before .before .offer-part .ensures .kept .same-length ∙ length-set (c12 .args .work .now) (c12 .args .s .tallies + c9 .owner-at .result) 0
 
 returns-3 : tie.Need-returns-3
 returns-3 c =
-    let a = c .before .before .before .before .before .before .before .before .before .before .before .before .args in
-    let r : c .before .before .before .before .before .before .before .before .before .owner-at .result < a .s .limits .ranks = rw (c .before .before .before .before .before .before .before .before .before .owner-at .ensures) (c .before .before .before .before .before .before .before .before .before .before .before .before .pre .0 .ranked (at (neighborsAt (a .work .now) (a .s .level)) (a .i)) (c .before .before .before .before .before .before .before .before .before .before .before .before .pre .3)) in
-    entry-new (c .before .before .before .before .before .before .before .before .before .owner-at .result) (c .before .before .before .before .before .before .before .before .before .owner-at .ensures) (c .before .before .before .before .before .before .before .before .before .before .before .before .pre .0) (c .before .before .before .before .before .before .before .before .before .before .before .before .pre .4) (c .before .before .before .before .before .before .before .before .before .before .before .before .pre .1) r (c .before .before .before .before .before .before .before .before .if1 .left) (c .before .before .before .before .before .before .if2 .left) (c .before .before .offer-part .last .0) (c .before .before .before .list-at .result) (c .before .before .before .list-at .ensures .0) (c .before .before .offer-part .ensures)
+    let c3 = c .before .before .before in
+    let c6 = c3 .before .before .before in
+    let c8 = c6 .before .before in
+    let c9 = c8 .before in
+    let c12 = c9 .before .before .before in
+    let a = c12 .args in
+    let r : c9 .owner-at .result < a .s .limits .ranks = rw (c9 .owner-at .ensures) (c12 .pre .0 .ranked (at (neighborsAt (a .work .now) (a .s .level)) (a .i)) (c12 .pre .3)) in
+    entry-new (c9 .owner-at .result) (c9 .owner-at .ensures) (c12 .pre .0) (c12 .pre .4) (c12 .pre .1) r (c8 .if1 .left) (c6 .if2 .left) (c .before .before .offer-part .last .0) (c3 .list-at .result) (c3 .list-at .ensures .0) (c .before .before .offer-part .ensures)
 
 pub offer-entry-spec : {M : Type 1} → statement M
 offer-entry-spec =

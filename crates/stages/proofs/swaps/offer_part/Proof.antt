@@ -29,8 +29,9 @@ same-length c = search needs
 
 returns : tie.Need-returns
 returns c =
-    let a = c .before .before .before .before .before .args in
-    offered-part (a .work .now) (c .before .before .offer .last .0) (a .a) (candidate (a .there) (a .home) (a .v)) (c .before .before .before .before .before .pre .0) (omega (arith, c .before .before .offer .kept)) (c .before .before .offer .ensures .0) (c .before .before .offer .ensures .1)
+    let c5 = c .before .before .before .before .before in
+    let a = c5 .args in
+    offered-part (a .work .now) (c .before .before .offer .last .0) (a .a) (candidate (a .there) (a .home) (a .v)) (c5 .pre .0) (omega (arith, c .before .before .offer .kept)) (c .before .before .offer .ensures .0) (c .before .before .offer .ensures .1)
 
 pub offer-part-spec : {M : Type 1} → statement M
 offer-part-spec =

@@ -44,16 +44,19 @@ cast-offer-entry c = search needs
 
 offer-entry-requires : tie.Need-offer-entry-requires Inv-loop μ-loop
 offer-entry-requires c κs =
-    let a = c .before .before .before .before .before .before .before .before .args in
-    let p = c .before .before .before .before .before .before .before .before .pre in
+    let c3 = c .before .before .before in
+    let c5 = c3 .before .before in
+    let c8 = c5 .before .before .before in
+    let a = c8 .args in
+    let p = c8 .pre in
     let l = c .before .before .loop in
     let k = l .inv .3 .kept in
     let b = row-ends (p .0 .ready) (a .v) (p .1) in (
       given-kept (p .0) k (omega (arith, p .0 .used-in, p .0 .loads-in)),
       rw (p .2) (p .0 .ranked (a .v) (p .1)),
-      omega (arith, c .before .before .before .before .before .row-start .ensures),
+      omega (arith, c5 .row-start .ensures),
       rw (neighbors-kept (p .0 .ready) k (beneath (p .0 .ready) (omega (arith, p .0 .used-in, p .0 .loads-in, p .0 .ready .laid .owners-in))))
-          (entry-below (p .0 .ready) (a .v) (p .1) (l .i) (omega (arith, c .before .before .before .row-start2 .ensures)) (omega (arith, c .before .before .before .before .before .row-start .ensures))),
+          (entry-below (p .0 .ready) (a .v) (p .1) (l .i) (omega (arith, c3 .row-start2 .ensures)) (omega (arith, c5 .row-start .ensures))),
       l .inv .4,
     )
 

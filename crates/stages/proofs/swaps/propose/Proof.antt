@@ -50,21 +50,28 @@ same-length c = search needs
 
 returns-2 : tie.Need-returns-2
 returns-2 c =
-    let a = c .before .before .before .before .before .before .before .before .before .before .before .before .before .before .before .args in
+    let c4 = c .before .before .before .before in
+    let c5 = c4 .before in
+    let c6 = c5 .before in
+    let c7 = c6 .before in
+    let c15 = c7 .before .before .before .before .before .before .before .before in
+    let a = c15 .args in
     let rows = rowsAt (a .w .now) (a .s .level) in
-    let l = c .before .before .before .before .before .linked in
+    let l = c5 .linked in
     let e : l .result ≡ linked rows (a .x .vertex) (a .y .vertex) =
-    l .ensures .1 ∙ ap (λ (i : ℕ). linked rows i (c .before .before .before .before .before .before .index2 .result)) (c .before .before .before .before .before .before .before .index .ensures) ∙ ap (linked rows (a .x .vertex)) (c .before .before .before .before .before .before .index2 .ensures) in
+    l .ensures .1 ∙ ap (λ (i : ℕ). linked rows i (c6 .index2 .result)) (c7 .index .ensures) ∙ ap (linked rows (a .x .vertex)) (c6 .index2 .ensures) in
     c .before .before .add .ensures
-    ∙ sym (propose-yes rows (candidateOf (a .x)) (candidateOf (a .y)) (a .room) (l .result) e (slots proposal (a .room) (a .list .now)) (omega (arith, c .before .before .before .before .if2 .taken)))
+    ∙ sym (propose-yes rows (candidateOf (a .x)) (candidateOf (a .y)) (a .room) (l .result) e (slots proposal (a .room) (a .list .now)) (omega (arith, c4 .if2 .taken)))
 
 returns-3 : tie.Need-returns-3
 returns-3 c =
-    let a = c .before .before .before .before .before .before .before .before .before .before .before .args in
+    let c3 = c .before .before .before in
+    let c11 = c3 .before .before .before .before .before .before .before .before in
+    let a = c11 .args in
     let rows = rowsAt (a .w .now) (a .s .level) in
     let l = c .before .linked in
     let e : l .result ≡ linked rows (a .x .vertex) (a .y .vertex) =
-    l .ensures .1 ∙ ap (λ (i : ℕ). linked rows i (c .before .before .index2 .result)) (c .before .before .before .index .ensures) ∙ ap (linked rows (a .x .vertex)) (c .before .before .index2 .ensures) in
+    l .ensures .1 ∙ ap (λ (i : ℕ). linked rows i (c .before .before .index2 .result)) (c3 .index .ensures) ∙ ap (linked rows (a .x .vertex)) (c .before .before .index2 .ensures) in
     sym (propose-no rows (candidateOf (a .x)) (candidateOf (a .y)) (a .room) (l .result) e (slots proposal (a .room) (a .list .now)) (omega (arith, c .if2 .left)))
 
 pub propose-spec : {M : Type 1} → statement M

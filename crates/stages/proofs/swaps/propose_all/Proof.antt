@@ -35,12 +35,15 @@ returns c = walk-stop (c .before .before .before .before .loop .inv .2) (omega a
 
 propose-row-requires : tie.Need-propose-row-requires Inv-loop μ-loop
 propose-row-requires c κs =
-    let d : at (c .before .before .before .before .before .before .before .before .before .before .args .fore .now) (3 * c .before .before .before .before .before .loop .i) ≡ 0 → ⊥ = λ q. c .before .if1 .left (ap (λ (z : Candidate). z .there) (c .before .before .before .member-at .ensures) ∙ q) in (
-      c .before .before .before .before .before .before .before .before .before .before .pre .0,
-      c .before .before .before .before .before .loop .inv .1,
-      subst (Fair (c .before .before .before .before .before .before .before .before .before .before .args .s .level .vertices)) (sym (c .before .before .before .member-at .ensures)) (walk-here (c .before .before .before .before .before .loop .inv .2) (omega arith) d),
-      c .before .before .before .before .before .before .before .before .before .before .pre .4,
-      c .before .before .before .before .before .before .before .before .before .before .pre .5,
+    let c3 = c .before .before .before in
+    let c5 = c3 .before .before in
+    let c10 = c5 .before .before .before .before .before in
+    let d : at (c10 .args .fore .now) (3 * c5 .loop .i) ≡ 0 → ⊥ = λ q. c .before .if1 .left (ap (λ (z : Candidate). z .there) (c3 .member-at .ensures) ∙ q) in (
+      c10 .pre .0,
+      c5 .loop .inv .1,
+      subst (Fair (c10 .args .s .level .vertices)) (sym (c3 .member-at .ensures)) (walk-here (c5 .loop .inv .2) (omega arith) d),
+      c10 .pre .4,
+      c10 .pre .5,
     )
 
 add-i : tie.Need-add-i Inv-loop μ-loop
@@ -51,14 +54,18 @@ loop-less c = omega arith
 
 loop-again : tie.Need-loop-again Inv-loop μ-loop
 loop-again c =
-    let a = c .before .before .before .before .before .before .before .before .before .before .before .before .before .args in
-    let l = c .before .before .before .before .before .before .before .before .loop in
-    let d : at (a .fore .now) (3 * l .i) ≡ 0 → ⊥ = λ q. c .before .before .before .before .if1 .left (ap (λ (z : Candidate). z .there) (c .before .before .before .before .before .before .member-at .ensures) ∙ q) in (
+    let c4 = c .before .before .before .before in
+    let c6 = c4 .before .before in
+    let c8 = c6 .before .before in
+    let c13 = c8 .before .before .before .before .before in
+    let a = c13 .args in
+    let l = c8 .loop in
+    let d : at (a .fore .now) (3 * l .i) ≡ 0 → ⊥ = λ q. c4 .if1 .left (ap (λ (z : Candidate). z .there) (c6 .member-at .ensures) ∙ q) in (
       omega arith,
       omega (arith, c .before .before .propose-row .kept),
       walk-turn (l .inv .2) (omega arith) d (slots proposal (a .room) (c .before .before .propose-row .last .0))
           (c .before .before .propose-row .ensures
-          ∙ ap (λ (x : Candidate). foldl (proposed (a .room) (rowsAt (a .w .now) (a .s .level)) x) (slots proposal (a .room) (l .list)) (slots candidate (a .n) (a .back .now))) (c .before .before .before .before .before .before .member-at .ensures)),
+          ∙ ap (λ (x : Candidate). foldl (proposed (a .room) (rowsAt (a .w .now) (a .s .level)) x) (slots proposal (a .room) (l .list)) (slots candidate (a .n) (a .back .now))) (c6 .member-at .ensures)),
     )
 
 same-length-2 : tie.Need-same-length-2 Inv-loop μ-loop

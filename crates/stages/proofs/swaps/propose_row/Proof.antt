@@ -35,11 +35,14 @@ returns c = walk-stop (c .before .before .before .before .loop .inv .2) (omega a
 
 propose-requires : tie.Need-propose-requires Inv-loop μ-loop
 propose-requires c κs =
-    let d : at (c .before .before .before .before .before .before .before .before .before .args .back .now) (3 * c .before .before .before .before .before .loop .j) ≡ 0 → ⊥ = λ q. c .before .if1 .left (ap (λ (z : Candidate). z .there) (c .before .before .before .member-at .ensures) ∙ q) in (
-      c .before .before .before .before .before .before .before .before .before .pre .0,
-      c .before .before .before .before .before .loop .inv .1,
-      c .before .before .before .before .before .before .before .before .before .pre .2,
-      subst (Fair (c .before .before .before .before .before .before .before .before .before .args .s .level .vertices)) (sym (c .before .before .before .member-at .ensures)) (walk-here (c .before .before .before .before .before .loop .inv .2) (omega arith) d),
+    let c3 = c .before .before .before in
+    let c5 = c3 .before .before in
+    let c9 = c5 .before .before .before .before in
+    let d : at (c9 .args .back .now) (3 * c5 .loop .j) ≡ 0 → ⊥ = λ q. c .before .if1 .left (ap (λ (z : Candidate). z .there) (c3 .member-at .ensures) ∙ q) in (
+      c9 .pre .0,
+      c5 .loop .inv .1,
+      c9 .pre .2,
+      subst (Fair (c9 .args .s .level .vertices)) (sym (c3 .member-at .ensures)) (walk-here (c5 .loop .inv .2) (omega arith) d),
     )
 
 add-j : tie.Need-add-j Inv-loop μ-loop
@@ -50,13 +53,17 @@ loop-less c = omega arith
 
 loop-again : tie.Need-loop-again Inv-loop μ-loop
 loop-again c =
-    let a = c .before .before .before .before .before .before .before .before .before .before .before .before .args in
-    let l = c .before .before .before .before .before .before .before .before .loop in
-    let d : at (a .back .now) (3 * l .j) ≡ 0 → ⊥ = λ q. c .before .before .before .before .if1 .left (ap (λ (z : Candidate). z .there) (c .before .before .before .before .before .before .member-at .ensures) ∙ q) in (
+    let c4 = c .before .before .before .before in
+    let c6 = c4 .before .before in
+    let c8 = c6 .before .before in
+    let c12 = c8 .before .before .before .before in
+    let a = c12 .args in
+    let l = c8 .loop in
+    let d : at (a .back .now) (3 * l .j) ≡ 0 → ⊥ = λ q. c4 .if1 .left (ap (λ (z : Candidate). z .there) (c6 .member-at .ensures) ∙ q) in (
       omega arith,
       omega (arith, c .before .before .propose .kept),
       walk-turn (l .inv .2) (omega arith) d (slots proposal (a .room) (c .before .before .propose .last .0))
-          (c .before .before .propose .ensures ∙ ap (proposed (a .room) (rowsAt (a .w .now) (a .s .level)) (candidateOf (a .x)) (slots proposal (a .room) (l .list))) (c .before .before .before .before .before .before .member-at .ensures)),
+          (c .before .before .propose .ensures ∙ ap (proposed (a .room) (rowsAt (a .w .now) (a .s .level)) (candidateOf (a .x)) (slots proposal (a .room) (l .list))) (c6 .member-at .ensures)),
     )
 
 same-length-2 : tie.Need-same-length-2 Inv-loop μ-loop

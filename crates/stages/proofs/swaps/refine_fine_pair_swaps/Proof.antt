@@ -31,28 +31,36 @@ add-weigh c = search needs
 
 weigh-requires : tie.Need-weigh-requires
 weigh-requires c κs =
-    let a = c .before .before .before .before .before .before .args in
+    let c3 = c .before .before .before in
+    let c6 = c3 .before .before .before in
+    let a = c6 .args in
     let s : SwapRoom = record { level = a .l; limits = a .limits; used = a .scratch; loads = a .scratch + a .l .vertices; tallies = a .scratch + a .l .vertices + a .limits .ranks; lists = a .lists } in
-    (weighable s (c .before .before .before .before .before .before .pre) refl refl (c .before .before .before .clear .ensures .1), λ i h. c .before .before .before .clear .ensures .0 i (omega arith))
+    (weighable s (c6 .pre) refl refl (c3 .clear .ensures .1), λ i h. c3 .clear .ensures .0 i (omega arith))
 
 swap-passes-requires : tie.Need-swap-passes-requires
 swap-passes-requires c κs =
-    let a = c .before .before .before .before .before .before .before .before .before .before .args in
+    let c3 = c .before .before .before in
+    let c7 = c3 .before .before .before .before in
+    let c10 = c7 .before .before .before in
+    let a = c10 .args in
     let s : SwapRoom = record { level = a .l; limits = a .limits; used = a .scratch; loads = a .scratch + a .l .vertices; tallies = a .scratch + a .l .vertices + a .limits .ranks; lists = a .lists } in
-    let x = c .before .before .before .before .before .before .before .clear .ensures in
-    let y = c .before .before .before .weigh .ensures in
-    (starts s (c .before .before .before .before .before .before .before .before .before .before .pre) refl refl (x .1) (x .0) (y .0) (y .1), starts-clear s (c .before .before .before .before .before .before .before .before .before .before .pre) refl refl (x .1) (x .0) (y .0) (y .1))
+    let x = c7 .clear .ensures in
+    let y = c3 .weigh .ensures in
+    (starts s (c10 .pre) refl refl (x .1) (x .0) (y .0) (y .1), starts-clear s (c10 .pre) refl refl (x .1) (x .0) (y .0) (y .1))
 
 same-length : tie.Need-same-length
 same-length c = search needs
 
 returns : tie.Need-returns
 returns c =
-    let a = c .before .before .before .before .before .before .before .before .before .before .before .before .before .args in
+    let c6 = c .before .before .before .before .before .before in
+    let c10 = c6 .before .before .before .before in
+    let c13 = c10 .before .before .before in
+    let a = c13 .args in
     let s : SwapRoom = record { level = a .l; limits = a .limits; used = a .scratch; loads = a .scratch + a .l .vertices; tallies = a .scratch + a .l .vertices + a .limits .ranks; lists = a .lists } in
-    let x = c .before .before .before .before .before .before .before .before .before .before .clear .ensures in
-    let y = c .before .before .before .before .before .before .weigh .ensures in
-    refined s (c .before .before .before .before .before .before .before .before .before .before .before .before .before .pre) refl refl (x .1) (x .0) (y .0) (y .1) (c .before .before .swap-passes .ensures)
+    let x = c10 .clear .ensures in
+    let y = c6 .weigh .ensures in
+    refined s (c13 .pre) refl refl (x .1) (x .0) (y .0) (y .1) (c .before .before .swap-passes .ensures)
 
 pub refine-fine-pair-swaps-spec : {M : Type 1} → statement M
 refine-fine-pair-swaps-spec =

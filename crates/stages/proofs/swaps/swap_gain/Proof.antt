@@ -62,12 +62,19 @@ less-requires-3 c κs = search needs
 
 returns : tie.Need-returns
 returns c =
-    let a = c .before .before .before .before .before .before .before .before .before .before .before .before .args in
-    let g = c .before .before .before .before .before .before .before .before .before .before .before .before .pre .0 in
+    let c3 = c .before .before .before in
+    let c4 = c3 .before in
+    let c5 = c4 .before in
+    let c6 = c5 .before in
+    let c7 = c6 .before in
+    let c8 = c7 .before in
+    let c12 = c8 .before .before .before .before in
+    let a = c12 .args in
+    let g = c12 .pre .0 in
     gain-of (rowsAt (a .w .now) (a .s .level)) (ownersAt (a .w .now) (a .s .level)) (a .u) (a .v) (at (a .w .now) (a .s .level .owners + a .u)) (at (a .w .now) (a .s .level .owners + a .v))
-    (c .before .before .before .before .before .before .before .before .links-to .result) (c .before .before .before .before .before .before .before .linked .result) (c .before .before .before .before .before .before .less .result) (c .before .before .before .before .before .links-to2 .result) (c .before .before .before .before .linked2 .result) (c .before .before .before .less2 .result) (c .before .before .links-to3 .result) (c .before .links-to4 .result) (c .less3 .result)
-    (sym (owner-is g (a .u) (c .before .before .before .before .before .before .before .before .before .before .before .before .pre .1))) (sym (owner-is g (a .v) (c .before .before .before .before .before .before .before .before .before .before .before .before .pre .2)))
-    (c .before .before .before .before .before .before .before .before .links-to .ensures .1) (c .before .before .before .before .before .before .before .linked .ensures .1) (c .before .before .before .before .before .before .less .ensures) (c .before .before .before .before .before .links-to2 .ensures .1) (c .before .before .before .before .linked2 .ensures .1) (c .before .before .before .less2 .ensures) (c .before .before .links-to3 .ensures .1) (c .before .links-to4 .ensures .1) (c .less3 .ensures)
+    (c8 .links-to .result) (c7 .linked .result) (c6 .less .result) (c5 .links-to2 .result) (c4 .linked2 .result) (c3 .less2 .result) (c .before .before .links-to3 .result) (c .before .links-to4 .result) (c .less3 .result)
+    (sym (owner-is g (a .u) (c12 .pre .1))) (sym (owner-is g (a .v) (c12 .pre .2)))
+    (c8 .links-to .ensures .1) (c7 .linked .ensures .1) (c6 .less .ensures) (c5 .links-to2 .ensures .1) (c4 .linked2 .ensures .1) (c3 .less2 .ensures) (c .before .before .links-to3 .ensures .1) (c .before .links-to4 .ensures .1) (c .less3 .ensures)
 
 pub swap-gain-spec : {M : Type 1} → statement M
 swap-gain-spec =

@@ -60,19 +60,23 @@ slice-aggregate-take-all c = search needs
 
 take-all-requires : tie.Need-take-all-requires
 take-all-requires c κs =
-    let g = c .before .before .before .before .before .before .before .before .before .pre .0 .given in
-    let f = c .before .before .before .before .before .before .before .before .before .pre .1 .3 in
-    (c .before .before .before .before .before .before .before .before .before .pre .0, omega (arith, c .before .before .before .propose-all .kept), omega arith, named g f _ (filled g f _ (c .before .before .before .propose-all .last .0) refl (c .before .before .before .propose-all .ensures)))
+    let c3 = c .before .before .before in
+    let c9 = c3 .before .before .before .before .before .before in
+    let g = c9 .pre .0 .given in
+    let f = c9 .pre .1 .3 in
+    (c9 .pre .0, omega (arith, c3 .propose-all .kept), omega arith, named g f _ (filled g f _ (c3 .propose-all .last .0) refl (c3 .propose-all .ensures)))
 
 same-length : tie.Need-same-length
 same-length c = search needs
 
 returns : tie.Need-returns
 returns c =
-    let a = c .before .before .before .before .before .before .before .before .before .before .before .before .args in
-    let g = c .before .before .before .before .before .before .before .before .before .before .before .before .pre .0 .given in (
+    let c6 = c .before .before .before .before .before .before in
+    let c12 = c6 .before .before .before .before .before .before in
+    let a = c12 .args in
+    let g = c12 .pre .0 .given in (
       c .before .before .take-all .ensures .0,
-      λ owners i j f. subst (Taken (a .work .now) (c .before .before .take-all .last .0) (a .s) (c .before .before .take-all .result)) (filled g f _ (c .before .before .before .before .before .before .propose-all .last .0) refl (c .before .before .before .before .before .before .propose-all .ensures)) (c .before .before .take-all .ensures .1),
+      λ owners i j f. subst (Taken (a .work .now) (c .before .before .take-all .last .0) (a .s) (c .before .before .take-all .result)) (filled g f _ (c6 .propose-all .last .0) refl (c6 .propose-all .ensures)) (c .before .before .take-all .ensures .1),
     )
 
 pub swap-listed-spec : {M : Type 1} → statement M

@@ -19,28 +19,39 @@ clear-requires-2 c κs = search needs
 
 list-all-requires : tie.Need-list-all-requires
 list-all-requires c κs =
-    let p = c .before .before .before .before .before .before .before .before .before .before .pre in
-    let a = c .before .before .before .before .before .before .before .clear .ensures in
-    let b = c .before .before .before .clear2 .ensures in
+    let c3 = c .before .before .before in
+    let c7 = c3 .before .before .before .before in
+    let c10 = c7 .before .before .before in
+    let p = c10 .pre in
+    let a = c7 .clear .ensures in
+    let b = c3 .clear2 .ensures in
     (standing₂ (p .0) (p .1) (a .0) (a .1) (b .0) (b .1) .given, clear₂ (p .0) (p .1) (a .0) (a .1) (b .0) (b .1), empty₂ (p .0) (p .1) (a .0) (a .1) (b .0) (b .1), sorted₂ (p .0) (p .1) (a .0) (a .1) (b .0) (b .1))
 
 swap-ranks-requires : tie.Need-swap-ranks-requires
 swap-ranks-requires c κs =
-    let p = c .before .before .before .before .before .before .before .before .before .before .before .before .before .before .pre in
-    let a = c .before .before .before .before .before .before .before .before .before .before .before .clear .ensures in
-    let b = c .before .before .before .before .before .before .before .clear2 .ensures in
-    (standing₃ (p .0) (p .1) (a .0) (a .1) (b .0) (b .1) (c .before .before .before .list-all .ensures), (ownersAt (c .before .before .before .before .before .before .before .clear2 .last .0) (c .before .before .before .before .before .before .before .before .before .before .before .before .before .before .args .s .level), c .before .before .before .list-all .ensures .holding))
+    let c3 = c .before .before .before in
+    let c7 = c3 .before .before .before .before in
+    let c11 = c7 .before .before .before .before in
+    let c14 = c11 .before .before .before in
+    let p = c14 .pre in
+    let a = c11 .clear .ensures in
+    let b = c7 .clear2 .ensures in
+    (standing₃ (p .0) (p .1) (a .0) (a .1) (b .0) (b .1) (c3 .list-all .ensures), (ownersAt (c7 .clear2 .last .0) (c14 .args .s .level), c3 .list-all .ensures .holding))
 
 same-length : tie.Need-same-length
 same-length c = search needs
 
 returns : tie.Need-returns
 returns c =
-    let p = c .before .before .before .before .before .before .before .before .before .before .before .before .before .before .before .before .before .pre in
-    let a = c .before .before .before .before .before .before .before .before .before .before .before .before .before .before .clear .ensures in
-    let b = c .before .before .before .before .before .before .before .before .before .before .clear2 .ensures in
-    let l = c .before .before .before .before .before .before .list-all .ensures in
-    pass-made (p .0) (p .1) (a .0) (a .1) (b .0) (b .1) l (c .before .before .swap-ranks .ensures .1 (ownersAt (c .before .before .before .before .before .before .before .before .before .before .clear2 .last .0) (c .before .before .before .before .before .before .before .before .before .before .before .before .before .before .before .before .before .args .s .level)) (l .holding))
+    let c6 = c .before .before .before .before .before .before in
+    let c10 = c6 .before .before .before .before in
+    let c14 = c10 .before .before .before .before in
+    let c17 = c14 .before .before .before in
+    let p = c17 .pre in
+    let a = c14 .clear .ensures in
+    let b = c10 .clear2 .ensures in
+    let l = c6 .list-all .ensures in
+    pass-made (p .0) (p .1) (a .0) (a .1) (b .0) (b .1) l (c .before .before .swap-ranks .ensures .1 (ownersAt (c10 .clear2 .last .0) (c17 .args .s .level)) (l .holding))
 
 pub swap-pass-spec : {M : Type 1} → statement M
 swap-pass-spec =

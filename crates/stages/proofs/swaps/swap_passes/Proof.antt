@@ -25,24 +25,37 @@ same-length : tie.Need-same-length Inv-loop μ-loop
 same-length c = c .before .before .before .swap-pass .ensures .kept .same-length ∙ c .before .before .before .before .before .before .loop .inv .1 .kept .same-length
 
 returns : tie.Need-returns Inv-loop μ-loop
-returns c = repeat-stops (c .before .before .before .before .before .before .before .before .pre .0) (c .before .before .before .before .before .before .before .before .args .passes) (c .before .before .before .before .before .before .loop .inv .1) (c .before .before .before .before .before .loop-test .taken) (c .before .before .before .swap-pass .ensures) (c .if1 .taken)
+returns c =
+    let c3 = c .before .before .before in
+    let c5 = c3 .before .before in
+    let c6 = c5 .before in
+    let c8 = c6 .before .before in
+    repeat-stops (c8 .pre .0) (c8 .args .passes) (c6 .loop .inv .1) (c5 .loop-test .taken) (c3 .swap-pass .ensures) (c .if1 .taken)
 
 wide-requires : tie.Need-wide-requires Inv-loop μ-loop
 wide-requires c κs = tt
 
 add-total : tie.Need-add-total Inv-loop μ-loop
 add-total c =
-    let n = repeat-goes (c .before .before .before .before .before .before .before .before .before .pre .0) (c .before .before .before .before .before .before .before .before .before .args .passes) (c .before .before .before .before .before .before .before .loop .inv .1) (c .before .before .before .before .before .before .loop-test .taken) (c .before .before .before .before .swap-pass .ensures) (c .before .if1 .left) in
-    record { fits = omega (arith, total-few (c .before .before .before .before .before .before .before .before .before .pre .0) (c .before .before .before .before .before .before .before .before .before .args .passes) n, c .wide .ensures) }
+    let c4 = c .before .before .before .before in
+    let c6 = c4 .before .before in
+    let c7 = c6 .before in
+    let c9 = c7 .before .before in
+    let n = repeat-goes (c9 .pre .0) (c9 .args .passes) (c7 .loop .inv .1) (c6 .loop-test .taken) (c4 .swap-pass .ensures) (c .before .if1 .left) in
+    record { fits = omega (arith, total-few (c9 .pre .0) (c9 .args .passes) n, c .wide .ensures) }
 
 loop-less : tie.Need-loop-less Inv-loop μ-loop
 loop-less c = omega (arith, c .before .before .before .before .before .before .loop-test .taken)
 
 loop-again : tie.Need-loop-again Inv-loop μ-loop
-loop-again c = (
-  omega (arith, c .before .before .before .before .before .before .loop-test .taken),
-  rw (c .wide .ensures) (repeat-goes (c .before .before .before .before .before .before .before .before .before .pre .0) (c .before .before .before .before .before .before .before .before .before .args .passes) (c .before .before .before .before .before .before .before .loop .inv .1) (c .before .before .before .before .before .before .loop-test .taken) (c .before .before .before .before .swap-pass .ensures) (c .before .if1 .left)),
-)
+loop-again c =
+    let c4 = c .before .before .before .before in
+    let c6 = c4 .before .before in
+    let c7 = c6 .before in
+    let c9 = c7 .before .before in (
+      omega (arith, c6 .loop-test .taken),
+      rw (c .wide .ensures) (repeat-goes (c9 .pre .0) (c9 .args .passes) (c7 .loop .inv .1) (c6 .loop-test .taken) (c4 .swap-pass .ensures) (c .before .if1 .left)),
+    )
 
 same-length-2 : tie.Need-same-length-2 Inv-loop μ-loop
 same-length-2 c = c .before .loop .inv .1 .kept .same-length

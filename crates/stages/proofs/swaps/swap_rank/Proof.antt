@@ -50,11 +50,14 @@ loop-less c = omega arith
 
 loop-again : tie.Need-loop-again Inv-loop μ-loop
 loop-again c =
-    let l = c .before .before .before .before .before .before .loop in
-    let p = c .before .before .before .before .before .before .before .before .pre in
+    let c6 = c .before .before .before .before .before .before in
+    let c8 = c6 .before .before in
+    let a = c8 .args in
+    let l = c6 .loop in
+    let p = c8 .pre in
     let x = c .before .before .swap-pair in
-    let next : (owners : List ℕ) → Holding (c .before .before .before .before .before .before .before .before .args .work .now) (c .before .before .before .before .before .before .before .before .args .s) owners → Taken (c .before .before .before .before .before .before .before .before .args .work .now) (x .last .0) (c .before .before .before .before .before .before .before .before .args .s) (l .done + x .result) (rankProposals (rowsAt (c .before .before .before .before .before .before .before .before .args .work .now) (c .before .before .before .before .before .before .before .before .args .s .level)) owners (c .before .before .before .before .before .before .before .before .args .a) (l .b + 1)) =
-    λ owners f. pair-turn (p .0 .given) (l .inv .4 owners f) owners (c .before .before .before .before .before .before .before .before .args .a) (l .b) refl (omega arith) (x .ensures .1 owners (holding-on (p .0 .given) (l .inv .4 owners f) owners f)) in
+    let next : (owners : List ℕ) → Holding (a .work .now) (a .s) owners → Taken (a .work .now) (x .last .0) (a .s) (l .done + x .result) (rankProposals (rowsAt (a .work .now) (a .s .level)) owners (a .a) (l .b + 1)) =
+    λ owners f. pair-turn (p .0 .given) (l .inv .4 owners f) owners (a .a) (l .b) refl (omega arith) (x .ensures .1 owners (holding-on (p .0 .given) (l .inv .4 owners f) owners f)) in
     (omega arith, omega arith, omega (arith, x .ensures .0), next (p .2 .0) (p .2 .1) .kept .same-length, next)
 
 same-length : tie.Need-same-length Inv-loop μ-loop

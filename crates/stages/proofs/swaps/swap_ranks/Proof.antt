@@ -40,10 +40,13 @@ loop-less c = omega arith
 
 loop-again : tie.Need-loop-again Inv-loop μ-loop
 loop-again c =
-    let l = c .before .before .before .before .before .before .loop in
-    let p = c .before .before .before .before .before .before .before .before .pre in
+    let c6 = c .before .before .before .before .before .before in
+    let c8 = c6 .before .before in
+    let a = c8 .args in
+    let l = c6 .loop in
+    let p = c8 .pre in
     let x = c .before .before .swap-rank in
-    let next : (owners : List ℕ) → Holding (c .before .before .before .before .before .before .before .before .args .work .now) (c .before .before .before .before .before .before .before .before .args .s) owners → Taken (c .before .before .before .before .before .before .before .before .args .work .now) (x .last .0) (c .before .before .before .before .before .before .before .before .args .s) (l .done + x .result) (ranksProposals (rowsAt (c .before .before .before .before .before .before .before .before .args .work .now) (c .before .before .before .before .before .before .before .before .args .s .level)) owners (c .before .before .before .before .before .before .before .before .args .s .limits .ranks) (l .a + 1)) =
+    let next : (owners : List ℕ) → Holding (a .work .now) (a .s) owners → Taken (a .work .now) (x .last .0) (a .s) (l .done + x .result) (ranksProposals (rowsAt (a .work .now) (a .s .level)) owners (a .s .limits .ranks) (l .a + 1)) =
     λ owners f. rank-turn (p .0 .given) (l .inv .3 owners f) owners (l .a) refl (x .ensures .1 owners (holding-on (p .0 .given) (l .inv .3 owners f) owners f)) in
     (omega arith, omega (arith, x .ensures .0), next (p .1 .0) (p .1 .1) .kept .same-length, next)
 

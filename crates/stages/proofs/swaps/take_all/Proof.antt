@@ -39,9 +39,12 @@ same-length c = c .before .before .before .loop .inv .2
 
 returns : tie.Need-returns Inv-loop μ-loop
 returns c =
-    let l = c .before .before .before .loop in
-    let e = walk-stop (l .inv .3 .1) (omega arith) (c .if1 .taken) ∙ snoc-all (slots proposal (c .before .before .before .before .before .before .args .n) (c .before .before .before .before .before .before .args .list .now)) in
-    (omega arith, subst (Taken (c .before .before .before .before .before .before .args .work .now) (l .work) (c .before .before .before .before .before .before .args .s) (l .done)) e (l .inv .3 .2))
+    let c3 = c .before .before .before in
+    let c6 = c3 .before .before .before in
+    let a = c6 .args in
+    let l = c3 .loop in
+    let e = walk-stop (l .inv .3 .1) (omega arith) (c .if1 .taken) ∙ snoc-all (slots proposal (a .n) (a .list .now)) in
+    (omega arith, subst (Taken (a .work .now) (l .work) (a .s) (l .done)) e (l .inv .3 .2))
 
 mul-index : tie.Need-mul-index Inv-loop μ-loop
 mul-index c = omega arith
@@ -90,18 +93,23 @@ loop-less c = omega arith
 
 loop-again : tie.Need-loop-again Inv-loop μ-loop
 loop-again c =
-    let a = c .before .before .before .before .before .before .before .before .before .before .before .before .before .before .args in
-    let l = c .before .before .before .before .before .before .before .before .before .before .before .loop in
-    let d = c .before .before .before .before .before .before .before .before .if1 .left in
+    let c3 = c .before .before .before in
+    let c5 = c3 .before .before in
+    let c8 = c5 .before .before .before in
+    let c11 = c8 .before .before .before in
+    let c14 = c11 .before .before .before in
+    let a = c14 .args in
+    let l = c11 .loop in
+    let d = c8 .if1 .left in
     let t = c .before .before .try-swap in
     let g = at (a .list .now) (3 * l .j) in
     let p = proposal g (at (a .list .now) (3 * l .j + 1)) (at (a .list .now) (3 * l .j + 2)) in
-    let e : proposal g (c .before .before .before .before .before .index .result) (c .before .before .before .index2 .result) ≡ p = rw (c .before .before .before .before .before .index .ensures, c .before .before .before .index2 .ensures) in
+    let e : proposal g (c5 .index .result) (c3 .index2 .result) ≡ p = rw (c5 .index .ensures, c3 .index2 .ensures) in
     let one : Taken (l .work) (t .last .0) (a .s) (t .result) (p ∷ []) = subst (λ (z : Proposal). Taken (l .work) (t .last .0) (a .s) (t .result) (z ∷ [])) e (t .ensures .1 g) in (
       omega arith,
       omega (arith, t .ensures .0),
       one .kept .same-length ∙ l .inv .2,
-      (snoc (l .inv .3 .0) p, walk-turn (l .inv .3 .1) (omega arith) d (snoc (l .inv .3 .0) p) refl, taken-then (c .before .before .before .before .before .before .before .before .before .before .before .before .before .before .pre .0 .given) (l .inv .3 .2) one),
+      (snoc (l .inv .3 .0) p, walk-turn (l .inv .3 .1) (omega arith) d (snoc (l .inv .3 .0) p) refl, taken-then (c14 .pre .0 .given) (l .inv .3 .2) one),
     )
 
 same-length-2 : tie.Need-same-length-2 Inv-loop μ-loop

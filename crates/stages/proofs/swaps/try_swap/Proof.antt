@@ -18,8 +18,11 @@ same-length c = search needs
 
 returns : tie.Need-returns
 returns c =
-    let a = c .before .before .before .before .before .before .before .before .args in
-    (omega arith, λ g. taken-swap (proposal g (a .u) (a .v)) (c .before .before .swap .last .0) (λ used m. sym (c .before .before .before .before .if1 .taken) ∙ c .before .before .before .before .before .applies .ensures used m) (c .before .before .swap .ensures))
+    let c4 = c .before .before .before .before in
+    let c5 = c4 .before in
+    let c8 = c5 .before .before .before in
+    let a = c8 .args in
+    (omega arith, λ g. taken-swap (proposal g (a .u) (a .v)) (c .before .before .swap .last .0) (λ used m. sym (c4 .if1 .taken) ∙ c5 .applies .ensures used m) (c .before .before .swap .ensures))
 
 same-length-2 : tie.Need-same-length-2
 same-length-2 c = search needs

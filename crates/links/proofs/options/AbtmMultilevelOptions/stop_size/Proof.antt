@@ -1,3 +1,4 @@
+-- A saturating product, and the greater of two numbers. Assumes nothing.
 use native.Mathlib.Omega.{arith}
 use borrow.Author.Needs.{needs}
 use Rattle.links.specs.Options.{stopSize}

@@ -1,3 +1,4 @@
+-- One test after the other. Assumes nothing.
 use borrow.Author.Tests.{lt-ltb, le-ltb, eq-eqb, ne-eqb}
 use Rattle.links.specs.Options.{optionsCause, badOptions}
 use Rattle.links.proofs.options.AbtmMultilevelOptions.validate.Statement.{statement}
@@ -17,11 +18,17 @@ returns-3 c = simp (ne-eqb _ _ (c .before .before .before .before .if1 .left), n
 
 returns-4 : tie.Need-returns-4
 unfolding optionsCause badOptions
-returns-4 c = simp (ne-eqb _ _ (c .before .before .before .before .before .before .if1 .left), ne-eqb _ _ (c .before .before .before .before .if2 .left), ne-eqb _ _ (c .before .before .if3 .left), lt-ltb _ _ (c .if4 .taken))
+returns-4 c =
+    let c4 = c .before .before .before .before in
+    let c6 = c4 .before .before in
+    simp (ne-eqb _ _ (c6 .if1 .left), ne-eqb _ _ (c4 .if2 .left), ne-eqb _ _ (c .before .before .if3 .left), lt-ltb _ _ (c .if4 .taken))
 
 returns-5 : tie.Need-returns-5
 unfolding optionsCause badOptions
-returns-5 c = simp (ne-eqb _ _ (c .before .before .before .before .before .before .if1 .left), ne-eqb _ _ (c .before .before .before .before .if2 .left), ne-eqb _ _ (c .before .before .if3 .left), le-ltb _ _ (c .if4 .left))
+returns-5 c =
+    let c4 = c .before .before .before .before in
+    let c6 = c4 .before .before in
+    simp (ne-eqb _ _ (c6 .if1 .left), ne-eqb _ _ (c4 .if2 .left), ne-eqb _ _ (c .before .before .if3 .left), le-ltb _ _ (c .if4 .left))
 
 pub validate-spec : {M : Type 1} → statement M
 validate-spec = tie.close (tie.spec returns returns-2 returns-3 returns-4 returns-5)

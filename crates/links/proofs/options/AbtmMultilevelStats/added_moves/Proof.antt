@@ -1,3 +1,4 @@
+-- A saturating sum. Assumes nothing.
 use borrow.Author.Needs.{needs}
 use Rattle.links.specs.Options.{addedMoves}
 use Rattle.links.proofs.options.AbtmMultilevelStats.added_moves.Statement.{statement}

@@ -1,3 +1,4 @@
+-- Two saturating sums. Assumes nothing.
 use borrow.Author.Needs.{needs}
 use Rattle.links.specs.Options.{addedPairs}
 use Rattle.links.proofs.options.AbtmMultilevelStats.added_pairs.Statement.{statement}

@@ -1,3 +1,4 @@
+-- Two counts are set, the rest stays. Assumes nothing.
 use mathlib.Core.Path.{refl}
 use Rattle.links.specs.Options.{grownStats}
 use Rattle.links.proofs.options.AbtmMultilevelStats.grown.Statement.{statement}

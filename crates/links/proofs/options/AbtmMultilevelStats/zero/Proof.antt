@@ -1,3 +1,4 @@
+-- Eight zeros. Assumes nothing.
 use mathlib.Core.Path.{refl}
 use Rattle.links.specs.Options.{zeroStats}
 use Rattle.links.proofs.options.AbtmMultilevelStats.zero.Statement.{statement}
