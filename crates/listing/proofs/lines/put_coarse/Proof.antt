@@ -36,15 +36,11 @@ same-length c = search needs
 returns : tie.Need-returns
 unfolding coarseText
 returns c =
-    let c7 = c .before .before .before .before .before .before .before in
-    let c12 = c7 .before .before .before .before .before in
-    let c17 = c12 .before .before .before .before .before in
-    let c21 = c17 .before .before .before .before in
-    let a = c17 .put-field .ensures .0 in
-    let b = c12 .put-field2 .ensures .0 in
-    let d = c7 .put-field3 .ensures .0 in
+    let a = c .before .before .before .before .before .before .before .before .before .before .before .before .before .before .before .before .before .put-field .ensures .0 in
+    let b = c .before .before .before .before .before .before .before .before .before .before .before .before .put-field2 .ensures .0 in
+    let d = c .before .before .before .before .before .before .before .put-field3 .ensures .0 in
     let e = c .before .before .put-field4 .ensures .0 in
-    (written-as (joined (joined (joined a b) d) e) (coarse-text (c21 .args .s)), search needs)
+    (written-as (joined (joined (joined a b) d) e) (coarse-text (c .before .before .before .before .before .before .before .before .before .before .before .before .before .before .before .before .before .before .before .before .before .args .s)), search needs)
 
 pub put-coarse-spec : {M : Type 1} → statement M
 put-coarse-spec =

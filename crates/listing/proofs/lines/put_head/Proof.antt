@@ -34,14 +34,10 @@ same-length c = search needs
 returns : tie.Need-returns
 unfolding headText
 returns c =
-    let c7 = c .before .before .before .before .before .before .before in
-    let c8 = c7 .before in
-    let c13 = c8 .before .before .before .before .before in
-    let c17 = c13 .before .before .before .before in
-    let vertices = c13 .put-field .ensures .0 in
-    let ranks = c7 .put-field2 .ensures .0 in
+    let vertices = c .before .before .before .before .before .before .before .before .before .before .before .before .before .put-field .ensures .0 in
+    let ranks = c .before .before .before .before .before .before .before .put-field2 .ensures .0 in
     let end = c .before .before .put .ensures in
-    let text = head-text (c17 .args .n) (c17 .args .ranks) (c8 .wide .result) (c8 .wide .ensures) in
+    let text = head-text (c .before .before .before .before .before .before .before .before .before .before .before .before .before .before .before .before .before .args .n) (c .before .before .before .before .before .before .before .before .before .before .before .before .before .before .before .before .before .args .ranks) (c .before .before .before .before .before .before .before .before .wide .result) (c .before .before .before .before .before .before .before .before .wide .ensures) in
     (written-as (joined (joined vertices ranks) end) text, omega (arith, end .end-is))
 
 pub put-head-spec : {M : Type 1} → statement M

@@ -31,11 +31,8 @@ same-length c = search needs
 returns-2 : tie.Need-returns-2
 unfolding refusalText
 returns-2 c =
-    let c7 = c .before .before .before .before .before .before .before in
-    let c8 = c7 .before in
-    let c13 = c8 .before .before .before .before .before in
-    let w = joined (c7 .put-field .ensures .0) (c .before .before .put .ensures) in
-    let v = written-as {ys = refusalText (c13 .args .number)} w (simp (c8 .wide .ensures, append-assoc)) in
+    let w = joined (c .before .before .before .before .before .before .before .put-field .ensures .0) (c .before .before .put .ensures) in
+    let v = written-as {ys = refusalText (c .before .before .before .before .before .before .before .before .before .before .before .before .before .args .number)} w (simp (c .before .before .before .before .before .before .before .before .wide .ensures, append-assoc)) in
     told (omega (arith, v .end-is, c .before .before .put .ensures .end-is)) (omega arith) v
 
 pub write-refusal-spec : {M : Type 1} → statement M

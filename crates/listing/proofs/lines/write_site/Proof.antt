@@ -20,19 +20,13 @@ put-head-requires c κs =
 
 put-lines-requires : tie.Need-put-lines-requires
 put-lines-requires c κs =
-    let c5 = c .before .before .before .before .before in
-    let c6 = c5 .before in
-    let c9 = c6 .before .before .before in
-    let a = c9 .args in
-    omega (arith, leb-true (siteRoom (length (a .owners .now))) (length (a .text .now)) (sym (c6 .has-room .ensures) ∙ c5 .if1 .taken))
+    let a = c .before .before .before .before .before .before .before .before .before .args in
+    omega (arith, leb-true (siteRoom (length (a .owners .now))) (length (a .text .now)) (sym (c .before .before .before .before .before .before .has-room .ensures) ∙ c .before .before .before .before .before .if1 .taken))
 
 put-stats-requires : tie.Need-put-stats-requires
 put-stats-requires c κs =
-    let c9 = c .before .before .before .before .before .before .before .before .before in
-    let c10 = c9 .before in
-    let c13 = c10 .before .before .before in
-    let a = c13 .args in
-    omega (arith, leb-true (siteRoom (length (a .owners .now))) (length (a .text .now)) (sym (c10 .has-room .ensures) ∙ c9 .if1 .taken))
+    let a = c .before .before .before .before .before .before .before .before .before .before .before .before .before .args in
+    omega (arith, leb-true (siteRoom (length (a .owners .now))) (length (a .text .now)) (sym (c .before .before .before .before .before .before .before .before .before .before .has-room .ensures) ∙ c .before .before .before .before .before .before .before .before .before .if1 .taken))
 
 same-length : tie.Need-same-length
 same-length c = search needs
@@ -40,15 +34,10 @@ same-length c = search needs
 returns : tie.Need-returns
 unfolding siteText
 returns c =
-    let c6 = c .before .before .before .before .before .before in
-    let c10 = c6 .before .before .before .before in
-    let c12 = c10 .before .before in
-    let c13 = c12 .before in
-    let c16 = c13 .before .before .before in
-    let a = c16 .args in
-    let room = leb-true (siteRoom (length (a .owners .now))) (length (a .text .now)) (sym (c13 .has-room .ensures) ∙ c12 .if1 .taken) in
-    let head = c10 .put-head .ensures .0 in
-    let lines = c6 .put-lines .ensures .0 in
+    let a = c .before .before .before .before .before .before .before .before .before .before .before .before .before .before .before .before .args in
+    let room = leb-true (siteRoom (length (a .owners .now))) (length (a .text .now)) (sym (c .before .before .before .before .before .before .before .before .before .before .before .before .before .has-room .ensures) ∙ c .before .before .before .before .before .before .before .before .before .before .before .before .if1 .taken) in
+    let head = c .before .before .before .before .before .before .before .before .before .before .put-head .ensures .0 in
+    let lines = c .before .before .before .before .before .before .put-lines .ensures .0 in
     let stats = c .before .before .put-stats .ensures .0 in
     let whole = written-as {ys = siteText (a .ranks) (a .owners .now) (a .stats)} (joined (joined head lines) stats) (simp append-assoc) in
     told (omega (arith, whole .end-is)) room whole

@@ -44,24 +44,18 @@ array-share-prefix-offsets c =
 
 slice-aggregate-tell-division : tie.Need-slice-aggregate-tell-division
 slice-aggregate-tell-division c =
-    let c4 = c .before .before .before .before in
-    let c8 = c4 .before .before .before .before in
-    let r = site-read (c8 .read-link-file .ensures) (c4 .s .given .0 .0) (c4 .s .given .1) in
-    sym (length-take-le (c .before .before .index .result + 1) (c8 .read-link-file .last .1 .0) (omega (arith, r .offsets-fit, c .before .before .index .ensures)))
+    let r = site-read (c .before .before .before .before .before .before .before .before .read-link-file .ensures) (c .before .before .before .before .s .given .0 .0) (c .before .before .before .before .s .given .1) in
+    sym (length-take-le (c .before .before .index .result + 1) (c .before .before .before .before .before .before .before .before .read-link-file .last .1 .0) (omega (arith, r .offsets-fit, c .before .before .index .ensures)))
 
 array-share-prefix-neighbors : tie.Need-array-share-prefix-neighbors
 array-share-prefix-neighbors c =
-    let c4 = c .before .before .before .before in
-    let c8 = c4 .before .before .before .before in
-    let r = site-read (c8 .read-link-file .ensures) (c4 .s .given .0 .0) (c4 .s .given .1) in
+    let r = site-read (c .before .before .before .before .before .before .before .before .read-link-file .ensures) (c .before .before .before .before .s .given .0 .0) (c .before .before .before .before .s .given .1) in
     omega (arith, r .neighbors-fit, c .before .index2 .ensures)
 
 slice-aggregate-tell-division-2 : tie.Need-slice-aggregate-tell-division-2
 slice-aggregate-tell-division-2 c =
-    let c5 = c .before .before .before .before .before in
-    let c9 = c5 .before .before .before .before in
-    let r = site-read (c9 .read-link-file .ensures) (c5 .s .given .0 .0) (c5 .s .given .1) in
-    sym (length-take-le (2 * c .before .before .index2 .result) (c9 .read-link-file .last .1 .1 .0) (omega (arith, r .neighbors-fit, c .before .before .index2 .ensures)))
+    let r = site-read (c .before .before .before .before .before .before .before .before .before .read-link-file .ensures) (c .before .before .before .before .before .s .given .0 .0) (c .before .before .before .before .before .s .given .1) in
+    sym (length-take-le (2 * c .before .before .index2 .result) (c .before .before .before .before .before .before .before .before .before .read-link-file .last .1 .1 .0) (omega (arith, r .neighbors-fit, c .before .before .index2 .ensures)))
 
 tell-division-requires : tie.Need-tell-division-requires
 tell-division-requires c κs =
@@ -82,13 +76,9 @@ same-length c = search needs
 
 returns-2 : tie.Need-returns-2
 returns-2 c =
-    let c6 = c .before .before .before .before .before .before in
-    let c7 = c6 .before in
-    let c9 = c7 .before .before in
-    let c13 = c9 .before .before .before .before in
-    let r = site-read (c13 .read-link-file .ensures) (c9 .s .given .0 .0) (c9 .s .given .1) in
-    let n = c7 .index in
-    let e = c6 .index2 in
+    let r = site-read (c .before .before .before .before .before .before .before .before .before .before .before .before .before .read-link-file .ensures) (c .before .before .before .before .before .before .before .before .before .s .given .0 .0) (c .before .before .before .before .before .before .before .before .before .s .given .1) in
+    let n = c .before .before .before .before .before .before .before .index in
+    let e = c .before .before .before .before .before .before .index2 in
     let t = c .before .before .tell-division .ensures in
     (told-as t (site-text (n .result) (e .result) r (n .ensures) (e .ensures)), counts t)
 

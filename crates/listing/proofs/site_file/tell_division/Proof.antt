@@ -29,12 +29,8 @@ array-share-prefix-owners c = search needs
 
 slice-aggregate-write-site : tie.Need-slice-aggregate-write-site
 slice-aggregate-write-site c =
-    let c3 = c .before .before .before in
-    let c7 = c3 .before .before .before .before in
-    let c11 = c7 .before .before .before .before in
-    let c15 = c11 .before .before .before .before in
-    owners-told (c7 .abtm-multilevel-partition .ensures) (c3 .stats .given .0 .0) (c11 .index .result) (c3 .stats .given .1)
-    (c15 .pre .0 ∙ ap (λ (x : ℕ). x + 1) (sym (c11 .index .ensures))) .0
+    owners-told (c .before .before .before .before .before .before .before .abtm-multilevel-partition .ensures) (c .before .before .before .stats .given .0 .0) (c .before .before .before .before .before .before .before .before .before .before .before .index .result) (c .before .before .before .stats .given .1)
+    (c .before .before .before .before .before .before .before .before .before .before .before .before .before .before .before .pre .0 ∙ ap (λ (x : ℕ). x + 1) (sym (c .before .before .before .before .before .before .before .before .before .before .before .index .ensures))) .0
 
 write-site-requires : tie.Need-write-site-requires
 write-site-requires c κs = search needs
@@ -51,16 +47,12 @@ same-length c = search needs
 returns : tie.Need-returns
 unfolding callText
 returns c =
-    let c6 = c .before .before .before .before .before .before in
-    let c10 = c6 .before .before .before .before in
-    let c14 = c10 .before .before .before .before in
-    let c18 = c14 .before .before .before .before in
-    let p = c10 .abtm-multilevel-partition .ensures in
-    let a = c18 .args in
+    let p = c .before .before .before .before .before .before .before .before .before .before .abtm-multilevel-partition .ensures in
+    let a = c .before .before .before .before .before .before .before .before .before .before .before .before .before .before .before .before .before .before .args in
     let d =
-    owners-told p (c6 .stats .given .0 .0) (c14 .index .result) (c6 .stats .given .1)
-    (c18 .pre .0 ∙ ap (λ (x : ℕ). x + 1) (sym (c14 .index .ensures))) in
-    told-as (with-room (c .before .before .write-site .ensures) shareRoom (omega (arith, d .0, c14 .index .ensures, c18 .pre .1)) (c18 .pre .2))
+    owners-told p (c .before .before .before .before .before .before .stats .given .0 .0) (c .before .before .before .before .before .before .before .before .before .before .before .before .before .before .index .result) (c .before .before .before .before .before .before .stats .given .1)
+    (c .before .before .before .before .before .before .before .before .before .before .before .before .before .before .before .before .before .before .pre .0 ∙ ap (λ (x : ℕ). x + 1) (sym (c .before .before .before .before .before .before .before .before .before .before .before .before .before .before .index .ensures))) in
+    told-as (with-room (c .before .before .write-site .ensures) shareRoom (omega (arith, d .0, c .before .before .before .before .before .before .before .before .before .before .before .before .before .before .index .ensures, c .before .before .before .before .before .before .before .before .before .before .before .before .before .before .before .before .before .before .pre .1)) (c .before .before .before .before .before .before .before .before .before .before .before .before .before .before .before .before .before .before .pre .2))
     (divided-text (a .s .ranks) _ _ _ (d .1))
 
 same-length-2 : tie.Need-same-length-2
@@ -69,13 +61,10 @@ same-length-2 c = search needs
 returns-2 : tie.Need-returns-2
 unfolding callText
 returns-2 c =
-    let c5 = c .before .before .before .before .before in
-    let c9 = c5 .before .before .before .before in
-    let c17 = c9 .before .before .before .before .before .before .before .before in
-    let p = c9 .abtm-multilevel-partition .ensures in
-    let a = c17 .args in
-    told-as (with-room (c .before .before .write-refusal .ensures) shareRoom (omega arith) (c17 .pre .2))
-    (refused-text (a .s .ranks) _ _ (refusal-told p (c5 .number .given .0 .0) (c5 .number .given .1)))
+    let p = c .before .before .before .before .before .before .before .before .before .abtm-multilevel-partition .ensures in
+    let a = c .before .before .before .before .before .before .before .before .before .before .before .before .before .before .before .before .before .args in
+    told-as (with-room (c .before .before .write-refusal .ensures) shareRoom (omega arith) (c .before .before .before .before .before .before .before .before .before .before .before .before .before .before .before .before .before .pre .2))
+    (refused-text (a .s .ranks) _ _ (refusal-told p (c .before .before .before .before .before .number .given .0 .0) (c .before .before .before .before .before .number .given .1)))
 
 pub tell-division-spec : {M : Type 1} → statement M
 tell-division-spec =

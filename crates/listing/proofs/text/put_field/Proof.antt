@@ -15,9 +15,7 @@ same-length : tie.Need-same-length
 same-length c = search needs
 
 returns : tie.Need-returns
-returns c =
-    let c6 = c .before .before .before .before .before .before in
-    (joined (c6 .put .ensures) (c .before .before .put-number .ensures .0), omega (arith, c6 .put .ensures .end-is))
+returns c = (joined (c .before .before .before .before .before .before .put .ensures) (c .before .before .put-number .ensures .0), omega (arith, c .before .before .before .before .before .before .put .ensures .end-is))
 
 pub put-field-spec : {M : Type 1} → statement M
 put-field-spec = tie.close (tie.spec put-requires put-number-requires same-length returns)
