@@ -41,7 +41,7 @@ fn level_at(n: usize, m: usize, base: usize) -> HierarchyLevel
     }
 }
 
-pub fn place_of(offsets: &[u32], neighbors: &[u32], ranks: u32) -> Place
+pub(crate) fn place_of(offsets: &[u32], neighbors: &[u32], ranks: u32) -> Place
     requires { ⌜ Limited (vertexCount (now offsets)) (length (now neighbors)) ranks ⌝ }
     ensures { λ r. ⌜ r ≡ placeFor (vertexCount (now (offsets .entry))) (length (now (neighbors .entry))) ranks ⌝ }
 {
@@ -176,7 +176,7 @@ fn lay_level(
 }
 
 // 0 and the level is laid; or the first of 3, 4, 5, 12, and nothing is written.
-pub fn enter(
+pub(crate) fn enter(
     offsets: &[u32],
     neighbors: &[u32],
     weights: &[u32],

@@ -5,7 +5,7 @@ ghost use lib.ListN.{length};
 ghost use Rattle.multilevel.specs.File.{Written};
 ghost use Rattle.listing.specs.Text.{decimal};
 
-pub fn put(text: &mut [u8], at: usize, bytes: &[u8]) -> usize
+pub(crate) fn put(text: &mut [u8], at: usize, bytes: &[u8]) -> usize
     requires { ⌜ at + length (now bytes) ≤ length (now text) ⌝ }
     ensures { λ r. ⌜ Written (now (bytes .entry)) at (now (text .entry)) (now (text .exit)) r ⌝ }
 {
@@ -17,7 +17,7 @@ pub fn put(text: &mut [u8], at: usize, bytes: &[u8]) -> usize
     at + bytes.len()
 }
 
-pub fn put_number(text: &mut [u8], at: usize, n: u64) -> usize
+pub(crate) fn put_number(text: &mut [u8], at: usize, n: u64) -> usize
     requires { ⌜ at + 20 ≤ length (now text) ⌝ }
     ensures { λ r. ⌜ Written (decimal n) at (now (text .entry)) (now (text .exit)) r ⌝ }
     ensures { λ r. ⌜ r ≤ at + 20 ⌝ }
@@ -27,7 +27,7 @@ pub fn put_number(text: &mut [u8], at: usize, n: u64) -> usize
     put(text, at, &digits[..k])
 }
 
-pub fn put_field(text: &mut [u8], at: usize, word: &[u8], n: u64) -> usize
+pub(crate) fn put_field(text: &mut [u8], at: usize, word: &[u8], n: u64) -> usize
     requires { ⌜ at + length (now word) + 20 ≤ length (now text) ⌝ }
     ensures { λ r. ⌜ Written (now (word .entry) ++ decimal n) at (now (text .entry)) (now (text .exit)) r ⌝ }
     ensures { λ r. ⌜ r ≤ at + length (now (word .entry)) + 20 ⌝ }

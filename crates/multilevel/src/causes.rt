@@ -37,7 +37,7 @@ fn over_limits(n: usize, m: usize, ranks: usize, levels: u64) -> bool
 
 // How many numbers a division's work takes.
 // Rules out: a product that wraps to a small number.
-pub fn work_need(n: usize, m: usize, ranks: usize, levels: usize) -> usize
+pub(crate) fn work_need(n: usize, m: usize, ranks: usize, levels: usize) -> usize
     requires { ⌜ Limited n m ranks levels ⌝ }
     ensures { λ r. ⌜ r ≡ workNeed n m ranks levels ⌝ }
 {
@@ -63,7 +63,7 @@ fn too_short(
 
 // 0, or the first of the causes 1 to 5 that holds.
 // Rules out: another order than the table's; work counted before the limits were tested.
-pub fn early_cause(
+pub(crate) fn early_cause(
     offsets: &[u32],
     neighbors: &[u32],
     ranks: u32,

@@ -5,7 +5,7 @@ use links::fill_part;
 use stages::HierarchyLevel;
 
 // The lists into l's parts, and a weight of 1 for each vertex.
-pub fn lay_site(work: &mut [u32], l: HierarchyLevel, offsets: &[u32], neighbors: &[u32])
+pub(crate) fn lay_site(work: &mut [u32], l: HierarchyLevel, offsets: &[u32], neighbors: &[u32])
     requires { ⌜ SiteFits (now work) l (now offsets) (now neighbors) ⌝ }
     ensures { λ _. ⌜ SiteLaid (now (work .entry)) (now (work .exit)) l (now (offsets .entry)) (now (neighbors .entry)) ⌝ }
 {

@@ -130,7 +130,12 @@ fn volume_in(work: &mut [u32], l: HierarchyLevel, seen: usize, ranks: usize) -> 
 
 // The cut and the volume; `ranks` numbers of the work slice from scratch on hold marks.
 // Rules out: entries for volume, as where a rank meets one neighbor twice; a link counted once; a rank's own vertices counted.
-pub fn measure_level(work: &mut [u32], l: HierarchyLevel, scratch: usize, ranks: usize) -> Measures
+pub(crate) fn measure_level(
+    work: &mut [u32],
+    l: HierarchyLevel,
+    scratch: usize,
+    ranks: usize,
+) -> Measures
     requires { ⌜ Measurable (now work) l scratch ranks ⌝ }
     ensures { λ r. ⌜ Measured (now (work .entry)) (now (work .exit)) l scratch ranks r ⌝ }
 {

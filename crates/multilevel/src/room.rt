@@ -7,7 +7,7 @@ ghost use Rattle.multilevel.specs.Room.{levelAt, movedUp};
 use stages::HierarchyLevel;
 
 // A level of n vertices and m entries at base: its parts one after the other.
-pub fn level_at(n: usize, m: usize, base: usize) -> HierarchyLevel
+pub(crate) fn level_at(n: usize, m: usize, base: usize) -> HierarchyLevel
     requires { ⌜ levelAt n m base .owners < 2 ^ 64 ⌝ }
     ensures { λ r. ⌜ r ≡ levelAt n m base ⌝ }
 {
@@ -26,7 +26,7 @@ pub fn level_at(n: usize, m: usize, base: usize) -> HierarchyLevel
 }
 
 // The same level, unit numbers further up.
-pub fn moved_up(l: HierarchyLevel, unit: usize) -> HierarchyLevel
+pub(crate) fn moved_up(l: HierarchyLevel, unit: usize) -> HierarchyLevel
     requires { ⌜ Laid l (l .owners + l .vertices) × (l .owners + unit < 2 ^ 64) ⌝ }
     ensures { λ r. ⌜ r ≡ movedUp l unit ⌝ }
 {
@@ -42,7 +42,7 @@ pub fn moved_up(l: HierarchyLevel, unit: usize) -> HierarchyLevel
 }
 
 // A level in the same place, of so many vertices and entries.
-pub fn sized(l: HierarchyLevel, vertices: usize, entries: usize) -> HierarchyLevel
+pub(crate) fn sized(l: HierarchyLevel, vertices: usize, entries: usize) -> HierarchyLevel
     ensures { λ r. ⌜ r ≡ resized l vertices entries ⌝ }
 {
     HierarchyLevel {

@@ -4,7 +4,7 @@ use links::index;
 use stages::HierarchyLevel;
 
 // Each vertex of l gets the owner of its group, a vertex of the coarser level.
-pub fn take_over(work: &mut [u32], l: HierarchyLevel, coarse: HierarchyLevel)
+pub(crate) fn take_over(work: &mut [u32], l: HierarchyLevel, coarse: HierarchyLevel)
     requires { ⌜ Stacked (now work) l coarse ⌝ }
     ensures { λ _. ⌜ TakenOver (now (work .entry)) (now (work .exit)) l coarse ⌝ }
 {

@@ -8,7 +8,7 @@ use links::copy_into;
 use stages::HierarchyLevel;
 
 // l's owners over the front; the rest stays.
-pub fn write_owners(owners: &mut [u32], work: &[u32], l: HierarchyLevel)
+pub(crate) fn write_owners(owners: &mut [u32], work: &[u32], l: HierarchyLevel)
     requires { ⌜ (l .owners + l .vertices ≤ length (now work)) × (l .vertices ≤ length (now owners)) ⌝ }
     ensures { λ _. ⌜ now (owners .exit) ≡ ownersAt (now (work .entry)) l ++ drop (l .vertices) (now (owners .entry)) ⌝ }
 {
