@@ -6,7 +6,7 @@ use mathlib.Core.List.{List, [], _∷_, _++_, map, nil≢cons, head-eq-of-cons-e
 use mathlib.Core.Option.{Option, none, some}
 use native.Mathlib.Numerals.{add-one}
 use native.Mathlib.Omega.{arith}
-use lib.ListN.{length, getD, take, drop, replicate}
+use lib.ListN.{length, getD, set, take, drop, replicate}
 use lib.Seq.{take-suc, drop-cons, split-at}
 use lib.Dec.{eqb}
 use borrow.Author.Tests.{eq-eqb, ne-eqb, eqb-true, eqb-false}
@@ -98,6 +98,11 @@ module _ {A : Type 0} where
     all-at (y ∷ ys) [] later x a e = subst P (head-eq-of-cons-eq e) (a .0)
     all-at (y ∷ ys) (b ∷ before) later x a e = all-at ys before later x (a .1) (tail-eq-of-cons-eq e)
 
+    pub all-set : (xs : List A) (i : ℕ) (x : A) → P x → All P xs → All P (set xs i x)
+    all-set [] i x p a = tt
+    all-set (y ∷ ys) zero x p a = (p, a .1)
+    all-set (y ∷ ys) (suc i) x p a = (a .0, all-set ys i x p (a .1))
+
     pub all-take : (n : ℕ) (xs : List A) → All P xs → All P (take n xs)
     all-take zero xs a = tt
     all-take (suc n) [] a = tt
@@ -185,6 +190,10 @@ module _ {A : Type 0} where
   pub any-none : (p : A → Bool) (xs : List A) → any p xs ≡ false → All (λ x. p x ≡ false) xs
   any-none p [] e = tt
   any-none p (x ∷ xs) e = split (p x) (λ q. absurd (true≢false (rw q at e))) (λ q. (q, any-none p xs (rw q at e)))
+
+  pub none-any : (p : A → Bool) (xs : List A) → All (λ x. p x ≡ false) xs → any p xs ≡ false
+  none-any p [] a = refl
+  none-any p (x ∷ xs) a = rw (a .0) (none-any p xs (a .1))
 
 pub elem-map : (x : ℕ) (f : ℕ → ℕ) (xs : List ℕ) → elem x (map f xs) ≡ any (λ u. eqb x (f u)) xs
 elem-map x f [] = refl

@@ -34,16 +34,16 @@ strayOwner k owners = any (leb k) owners
 unfoldable pub emptyRank : ℕ → List ℕ → Bool
 emptyRank k owners = any (λ r. eqb (owned owners r) 0) (range 0 k)
 
--- "order of `from_owners`: 2, 3, 12, 9"; 0 if none
+-- the "order of `from_owners`": 2, "3, 12 for an owner ≥ k, 9"; 0 if none
 unfoldable pub fromOwners : ℕ → List ℕ → ℕ
 fromOwners k owners =
     cond (badRanks k (length owners)) 2 (cond (tooMany k (length owners)) 3 (cond (strayOwner k owners) 12 (cond (emptyRank k owners) 9 0)))
 
--- "turbine index out of range: 11"
+-- 11: "turbine index out of range"
 unfoldable pub ownerCause : List ℕ → ℕ → ℕ
 ownerCause owners v = cond (ltb v (length owners)) 0 11
 
--- "crew number out of range: 12"
+-- 12: "crew number out of range"
 unfoldable pub countCause : ℕ → ℕ → ℕ
 countCause k r = cond (ltb r k) 0 12
 

@@ -1,4 +1,4 @@
--- The listing of an answer, "turbine and owner, then the stats; for a refusal, `refused ` and the number", as document 01's example has it.
+-- The listing of an answer, "turbine and owner, then the stats", as document 01's example has it; "for a refusal, `refused ` and the number".
 -- Assumes nothing.
 use Prim.Native.Nat.{ℕ, _+_, _*_}
 use mathlib.Core.List.{List, _++_}

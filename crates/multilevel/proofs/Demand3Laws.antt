@@ -8,8 +8,8 @@ use native.Mathlib.Nat.{div-mul-le-self, le-div-iff-mul-le}
 use native.Mathlib.Omega.{arith}
 use lib.ListN.{length, length-replicate}
 use lib.Dec.{ltb, eqb}
-use borrow.Author.Tests.{ne-eqb, eqb-true, le-ltb}
-use Rattle.links.specs.Lists.{unassigned, any, range, sum}
+use borrow.Author.Tests.{ne-eqb, eqb-true, eqb-false, le-ltb}
+use Rattle.links.specs.Lists.{unassigned, any, range, sum, All}
 use Rattle.links.specs.Loads.{saturating, share, loadCap, Balance, balance}
 use Rattle.links.specs.Graph.{vertexCount, load, owned}
 use Rattle.links.specs.Options.{stopSize}
@@ -19,13 +19,15 @@ use Rattle.stages.specs.Growth.{Turn, Growth, grown}
 use Rattle.stages.specs.Moves.{after}
 use Rattle.multilevel.specs.Causes.{Call, earlyCause}
 use Rattle.multilevel.specs.Division.{Outcome, refused, divided, Level, Run, Trace, noGrowth, swapPasses, solve, stepsOf, statsOf, abtmMultilevelPartition, finestWeights, division}
-use Rattle.multilevel.specs.Demand3.{siteRows, balanceOf, keptSteps, ladder, growthOn, moved, FairTurn, FairLevel, FairShares, Demand3}
+use Rattle.multilevel.specs.Demand3.{siteRows, balanceOf, passesOf, keptSteps, ladder, growthOn, swapsDue, moved, FairTurn, FairLevel, FairShares, Early, WithGrowth, WithoutGrowth, Demand3}
 use Rattle.links.proofs.ListLaws.{split, all-at, sum-ones}
 use Rattle.links.proofs.RowLaws.{length-rows}
 use Rattle.stages.proofs.StepLaws.{foldl-append, length-steps}
 use Rattle.stages.proofs.GrowthLaws.{allPass}
 use Rattle.stages.proofs.LoadLaws.{load-owned, swaps-owned}
-use Rattle.multilevel.proofs.DivisionLaws.{Tested, tested, early-low, none-empty, chained, growthOn-fair, growthOn-last, first-at, linked-at, Grew, grew, not-yet, Done, Solved, solve-solved}
+use Rattle.stages.proofs.RankLaws.{checked-ranked}
+use Rattle.multilevel.proofs.CheckLaws.{swaps-ranked}
+use Rattle.multilevel.proofs.DivisionLaws.{Tested, tested, early-number, early-some, early-8, none-empty, chained, growthOn-fair, growthOn-last, first-at, linked-at, Late, Grew, grew, not-yet, due, due-at, Done, Solved, solve-solved}
 
 -- ---- shares
 
@@ -60,29 +62,35 @@ module _ (b : Balance) (rows : List (List ℕ)) (swapping : ℕ) (cs : List Coar
       let l = d .last in
       ap length (d .owners-are) ∙ length-steps (stepsOf l) (l .start) ∙ sym (length-steps (l .moves) (l .start)) ∙ d .sized
 
+  ranked-owners : 1 ≤ b .ranks → All (λ r. r < b .ranks) (t .owners)
+  ranked-owners some-ranks =
+      let l = d .last in
+      rw (d .owners-are ∙ foldl-append after (l .moves) (l .swaps) (l .start))
+      (swaps-ranked rows (b .ranks) some-ranks (l .swaps) (moved l) (d .swapped) (checked-ranked (b .ranks) (moved l) (d .checked)))
+
 -- ---- a call
 
-abbrev trace : Call → Trace
+abbrev pub trace : Call → Trace
 trace c =
     let rows = siteRows c in
-    let passes = c .options .«refinement_passes» in
-    solve (balanceOf c) passes (swapPasses passes) rows (finestWeights rows) (keptSteps c)
+    solve (balanceOf c) (passesOf c) (swapPasses (passesOf c)) rows (finestWeights rows) (keptSteps c)
 
 abbrev Ended : Call → Trace → Type 0
-Ended c t = Solved (balanceOf c) (swapPasses (c .options .«refinement_passes»)) (siteRows c) (finestWeights (siteRows c)) (keptSteps c) t
+Ended c t = Solved (balanceOf c) (passesOf c) (swapPasses (passesOf c)) (siteRows c) (finestWeights (siteRows c)) (keptSteps c) t
 
 few-ranks : (c : Call) → Tested c → balanceOf c .ranks < unassigned
 unfolding balance
 few-ranks c g = omega (arith, g .few-ranks)
 
 solved : (c : Call) → Tested c → Ended c (trace c)
+unfolding balance
 solved c g =
     let rows = siteRows c in
-    let passes = c .options .«refinement_passes» in
-    let small : length rows < unassigned = omega (arith, length-rows (c .offsets) (c .neighbors), g .few-vertices) in
+    let few : length rows ≤ 16384 = omega (arith, length-rows (c .offsets) (c .neighbors), g .few-vertices) in
     let weighed : length (finestWeights rows) ≡ length rows = length-replicate (length rows) 1 in
-    let chain = chained (c .options .«max_levels») (stopSize (c .options) (c .ranks)) rows (finestWeights rows) (g .lists .sound) small weighed in
-    solve-solved (balanceOf c) passes (few-ranks c g) (keptSteps c) (swapPasses passes) rows (finestWeights rows) (g .lists .sound) chain
+    let chain = chained (c .options .«max_levels») (stopSize (c .options) (c .ranks)) rows (finestWeights rows) (g .lists .sound) (omega arith) weighed in
+    solve-solved (balanceOf c) (passesOf c) (g .some-ranks) (g .few-ranks) (keptSteps c) (swapPasses (passesOf c)) rows (finestWeights rows)
+    (g .lists .sound) few chain
 
 divided-of
     : (x : Bool) (o owners : List ℕ) (s stats : AbtmMultilevelStats) (n : ℕ)
@@ -91,9 +99,17 @@ divided-of
 divided-of true o owners s stats n e = (refl, cc, cc)
 divided-of false o owners s stats n e = let z : _≡_ {A = ℕ} 0 1 = cc in absurd (omega arith)
 
-refused-of : (x : Bool) (o : List ℕ) (s : AbtmMultilevelStats) (n m : ℕ) → cond x (divided o s) (refused n) ≡ refused m → n ≡ m
+refused-of
+    : (x : Bool) (o : List ℕ) (s : AbtmMultilevelStats) (n m : ℕ) → cond x (divided o s) (refused n) ≡ refused m → (x ≡ false) × (n ≡ m)
 refused-of true o s n m e = let z : _≡_ {A = ℕ} 0 1 = cc in absurd (omega arith)
-refused-of false o s n m e = cc
+refused-of false o s n m e = (refl, cc)
+
+due-is
+    : (c : Call) (x : Bool) (o : List ℕ) (s : AbtmMultilevelStats) (n : ℕ) (finer : List Level) (l : Level)
+    → due (balanceOf c) (swapPasses (passesOf c)) x finer l ≡ swapsDue c (cond x (divided o s) (refused n)) finer l
+due-is c true o s n [] l = refl
+due-is c true o s n (m ∷ finer) l = refl
+due-is c false o s n finer l = refl
 
 -- how a trace ends
 abbrev ends : Call → Trace → Outcome
@@ -113,7 +129,7 @@ shares-of c g t sol owners s e =
     let k = c .ranks in
     let n = length-rows (c .offsets) (c .neighbors) in
     let per = c .options .«imbalance_per_mille» in
-    let sw = swapPasses (c .options .«refinement_passes») in
+    let sw = swapPasses (passesOf c) in
     let a = divided-of (eqb (t .refusal) 0) (t .owners) owners s (statsOf rows k (keptSteps c) t) (t .refusal) e in
     let d = sol .done (eqb-true (t .refusal) 0 (a .0)) in
     let fair-share : balanceOf c .cap ≤ vertexCount (c .offsets) * (1000 + per) / (1000 * k) =
@@ -121,6 +137,7 @@ shares-of c g t sol owners s e =
     (cap-share (sum (finestWeights rows)) k per (g .some-ranks) (g .tolerance)) in
     rw (a .1, a .2) (record {
       size = size-owners (balanceOf c) rows sw (keptSteps c) t d ∙ n;
+      ranked = ranked-owners (balanceOf c) rows sw (keptSteps c) t d (g .some-ranks);
       least = λ r h. omega (arith, same-owned (balanceOf c) rows sw (keptSteps c) t d r, none-empty k (moved (d .last)) (d .checked) r h);
       most = λ r h. omega (arith, within-cap (balanceOf c) rows sw (keptSteps c) t d r h, fair-share);
       whole = d .whole;
@@ -143,36 +160,46 @@ no-turns cap [] later t e = absurd (nil≢cons e)
 no-turns cap (x ∷ before) later t e = absurd (nil≢cons e)
 
 module _ (b : Balance) (rows : List (List ℕ)) (ws : List ℕ) (cs : List Coarse) (t : Trace) where
-  fair-turns : Grew (growthOn b rows ws cs) t → FairGrowth (b .cap) (t .growth)
-  fair-turns (grew e) = subst (FairGrowth (b .cap)) (sym e) (growthOn-fair b cs rows ws)
-  fair-turns (not-yet e l some low) = subst (FairGrowth (b .cap)) (sym e) (no-turns (b .cap))
+  fair-turns : Grew (b .ranks) (growthOn b rows ws cs) t → FairGrowth (b .cap) (t .growth)
+  fair-turns (grew e late) = subst (FairGrowth (b .cap)) (sym e) (growthOn-fair b cs rows ws)
+  fair-turns (not-yet e l early) = subst (FairGrowth (b .cap)) (sym e) (no-turns (b .cap))
 
   last-turns
       : b .ranks < unassigned
-      → Grew (growthOn b rows ws cs) t
+      → Grew (b .ranks) (growthOn b rows ws cs) t
       → t .refusal ≡ 8
       → any (eqb unassigned) (grown (t .growth) (t .growth .turns)) ≡ true
       → LastRound (b .ranks) (t .growth)
-  last-turns n (grew e) z u =
+  last-turns n (grew e late) z u =
       let Vacant : Growth → Type 0 = λ g. any (eqb unassigned) (grown g (g .turns)) ≡ true in
       subst (LastRound (b .ranks)) (sym e) (growthOn-last b cs rows ws n (subst Vacant e u))
-  last-turns n (not-yet e l some low) z u = absurd (omega arith)
+  last-turns n (not-yet e l early) z u = absurd (early-8 (t .refusal) early z)
 
 -- ---- a division whose call passed the tests, and one whose call did not
-
--- which growth there was
-abbrev GrowthTold : Call → Run → Type 0
-GrowthTold c run =
-    (run .growth ≡ growthOn (balanceOf c) (siteRows c) (finestWeights (siteRows c)) (keptSteps c))
-    ⊎ ((number : ℕ) × (run .outcome ≡ refused number) × (number < 8) × (run .growth ≡ noGrowth) × (run .levels ≡ []))
 
 abbrev runOf : Call → Trace → Run
 runOf c t = record { growth = t .growth; levels = t .levels; outcome = ends c t }
 
+-- whether it came to growth, and what its refusal is then
 growth-told
-    : (c : Call) (t : Trace) → Grew (growthOn (balanceOf c) (siteRows c) (finestWeights (siteRows c)) (keptSteps c)) t → GrowthTold c (runOf c t)
-growth-told c t (grew e) = inl e
-growth-told c t (not-yet e l some low) = inr (t .refusal, rw (ne-eqb (t .refusal) 0 some), low, e, l)
+    : (c : Call) (t : Trace)
+    → Grew (c .ranks) (growthOn (balanceOf c) (siteRows c) (finestWeights (siteRows c)) (keptSteps c)) t
+    → WithGrowth c (runOf c t) ⊎ WithoutGrowth (runOf c t)
+growth-told c t (grew e late) =
+    inl (record {
+      growth = e;
+      refusal = λ number q.
+          let z = refused-of (eqb (t .refusal) 0) (t .owners) (statsOf (siteRows c) (c .ranks) (keptSteps c) t) (t .refusal) number q in
+          subst (λ (x : ℕ). Late (c .ranks) x (t .levels)) (z .1) (late (eqb-false (t .refusal) 0 (z .0)));
+    })
+growth-told c t (not-yet e l early) =
+    inr (record {
+      number = t .refusal;
+      early = early;
+      refusal = rw (ne-eqb (t .refusal) 0 (early-some (t .refusal) early));
+      growth = e;
+      levels = l;
+    })
 
 worked : (c : Call) → Tested c → (t : Trace) → Ended c t → Demand3 c (runOf c t)
 unfolding balance
@@ -186,10 +213,13 @@ worked c g t sol =
       growth = growth-told c t (sol .growth);
       turns = fair-turns b rows ws cs t (sol .growth);
       lastRound = λ e.
-          let z = refused-of (eqb (t .refusal) 0) (t .owners) (statsOf rows (c .ranks) cs t) (t .refusal) 8 e in
+          let z = refused-of (eqb (t .refusal) 0) (t .owners) (statsOf rows (c .ranks) cs t) (t .refusal) 8 e .1 in
           last-turns b rows ws cs t (few-ranks c g) (sol .growth) z (sol .unclaimed z);
       ladders = (sol .rest, sol .climbed);
-      levels = λ coarser finer l e. all-at (FairLevel b) (t .levels) coarser finer l (sol .fair) e;
+      levels = λ coarser finer l e. all-at (FairLevel b (passesOf c)) (t .levels) coarser finer l (sol .fair) e;
+      swaps = λ coarser finer l e.
+          due-at b (swapPasses (passesOf c)) (eqb (t .refusal) 0) (t .levels) coarser finer l (sol .swaps-due) e
+          ∙ due-is c (eqb (t .refusal) 0) (t .owners) (statsOf rows (c .ranks) cs t) (t .refusal) finer l;
       coarsest = λ l finer e. first-at (t .growth) (t .levels) (sol .first) l finer e;
       takeover = λ coarser finer l m e. linked-at (t .levels) coarser finer l m (sol .linked) e;
     }
@@ -198,18 +228,32 @@ no-levels : (xs : List Level) (l : Level) (ys : List Level) → [] ≡ xs ++ l �
 no-levels [] l ys e = nil≢cons e
 no-levels (x ∷ xs) l ys e = nil≢cons e
 
-untouched : (c : Call) (number : ℕ) → number < 8 → Demand3 c (record { growth = noGrowth; levels = []; outcome = refused number })
-untouched c number low =
+untouched : (c : Call) (number : ℕ) → Early number → Demand3 c (record { growth = noGrowth; levels = []; outcome = refused number })
+untouched c number early =
     record {
       shares = λ owners s e. let z : _≡_ {A = ℕ} 0 1 = cc in absurd (omega arith);
-      growth = inr (number, refl, low, refl, refl);
+      growth = inr (record { number = number; early = early; refusal = refl; growth = refl; levels = refl });
       turns = no-turns (balanceOf c .cap);
-      lastRound = λ e. let z : number ≡ 8 = cc in absurd (omega arith);
+      lastRound = λ e. let z : number ≡ 8 = cc in absurd (early-8 number early z);
       ladders = (ladder (siteRows c) (finestWeights (siteRows c)) (keptSteps c), refl);
       levels = λ coarser finer l e. absurd (no-levels coarser l finer e);
+      swaps = λ coarser finer l e. absurd (no-levels coarser l finer e);
       coarsest = λ l finer e. absurd (nil≢cons e);
       takeover = λ coarser finer l m e. absurd (no-levels coarser l (m ∷ finer) e);
     }
+
+-- a call's refusal is its early cause, or else its trace's
+pub refused-by
+    : (c : Call) (number : ℕ)
+    → division c .outcome ≡ refused number
+    → (earlyCause c ≡ number) ⊎ ((earlyCause c ≡ 0) × (trace c .refusal ≡ number))
+unfolding division abtmMultilevelPartition
+refused-by c number e = split (eqb (earlyCause c) 0)
+    (λ q.
+    let t = trace c in
+    let stats = statsOf (siteRows c) (c .ranks) (keptSteps c) t in
+    inr (eqb-true (earlyCause c) 0 q, refused-of (eqb (t .refusal) 0) (t .owners) stats (t .refusal) number (rw q at e) .1))
+    (λ q. let z : refused (earlyCause c) ≡ refused number = rw q at e in inl (cc))
 
 -- ---- demand 3
 
@@ -217,4 +261,4 @@ pub demand3 : (c : Call) → Demand3 c (division c)
 unfolding division abtmMultilevelPartition
 demand3 c = split (eqb (earlyCause c) 0)
     (λ q. let g = tested c (eqb-true (earlyCause c) 0 q) in rw q (worked c g (trace c) (solved c g)))
-    (λ q. rw q (untouched c (earlyCause c) (early-low c)))
+    (λ q. rw q (untouched c (earlyCause c) (early-number c (eqb-false (earlyCause c) 0 q))))

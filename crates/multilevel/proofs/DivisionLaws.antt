@@ -1,8 +1,8 @@
 -- A whole division: what its tests leave, what holds of its growth and its levels, and how they hang together. Assumes nothing.
 use Prim.Native.Nat.{ℕ, zero, suc, _≤_, _<_}
 use mathlib.Core.Path.{_≡_, refl, sym, ap, _∙_, subst}
-use mathlib.Core.Logic.{_≢_}
-use mathlib.Core.Bool.{Bool, true, false, _||_, cond}
+use mathlib.Core.Logic.{_≢_, _⊎_, inl, inr}
+use mathlib.Core.Bool.{Bool, true, false, _||_, cond, false≢true}
 use mathlib.Core.List.{List, [], _∷_, _++_, map, append-assoc, append-nil, head-eq-of-cons-eq, nil≢cons, tail-eq-of-cons-eq, map-append}
 use native.Mathlib.Omega.{arith}
 use lib.ListN.{length, length-map}
@@ -11,7 +11,7 @@ use borrow.Author.Tests.{eqb-true, eqb-false, ltb-true, ltb-false}
 use Rattle.links.specs.Lists.{at, unassigned, any, foldl, range, All}
 use Rattle.links.specs.Loads.{Balance}
 use Rattle.links.specs.Graph.{vertexCount, badLists, Sound, SoundLists, load, owned}
-use Rattle.links.specs.Owners.{badRanks, tooMany, strayOwner, emptyRank, fromOwners}
+use Rattle.links.specs.Owners.{emptyRank, fromOwners}
 use Rattle.links.specs.Options.{badOptions}
 use Rattle.stages.specs.Coarsen.{Coarse, coarsenOnce}
 use Rattle.stages.specs.Seeds.{farthestSeeds}
@@ -20,15 +20,17 @@ use Rattle.stages.specs.Moves.{Step, after, repeat, refineByCut}
 use Rattle.stages.specs.Swaps.{refineFinePairSwaps}
 use Rattle.multilevel.specs.Causes.{Call, badCounts, overLimits, firstOf, needOf, tooShort, earlyCause}
 use Rattle.multilevel.specs.Division.{Level, Trace, noGrowth, stopped, coarsenings, takeOver, listLength, refine, grow, solve}
-use Rattle.multilevel.specs.Demand3.{Lists, listsOf, ladder, growthOn, moved, ended, FairTurn, FairLevel}
+use Rattle.multilevel.specs.Demand3.{Lists, listsOf, ladder, growthOn, moved, ended, FairTurn, FairLevel, Early, Emptied}
 use Rattle.links.proofs.ListLaws.{split, or-l, or-r, all-append, all-in, elem-range, any-none}
 use Rattle.links.proofs.SoundLaws.{sound-lists}
-use Rattle.stages.proofs.StepLaws.{Along, foldl-append, length-steps, Swapped, moves-made, moves-settled, swaps-made}
-use Rattle.stages.proofs.GrowthLaws.{length-grown, growth-fair, allPass, growth-last}
+use Rattle.stages.proofs.StepLaws.{Along, foldl-append, length-steps, Swapped, moves-made, swaps-made}
+use Rattle.stages.proofs.GrowthLaws.{length-seeds, length-grown, growth-fair, allPass, growth-last}
 use Rattle.stages.proofs.LoadLaws.{growth-within, moves-within}
 use Rattle.stages.proofs.GroupingLaws.{coarse-sound, coarse-weighed, coarse-sized, coarse-load}
 use Rattle.multilevel.proofs.CauseLaws.{good-options, limited}
+use Rattle.stages.proofs.RankLaws.{grown-ranked, checked-ranked}
 use Rattle.multilevel.proofs.LevelLaws.{level-fair}
+use Rattle.multilevel.proofs.CheckLaws.{moves-ranked, taken-all, checked, unchecked, check-empty}
 
 -- ---- what the causes tested before the work leave
 
@@ -55,13 +57,13 @@ first-none false false false true v e = absurd (omega arith)
 first-none false false false false true e = absurd (omega arith)
 first-none false false false false false e = (refl, refl, refl, refl, refl)
 
-first-low : (x y z w v : Bool) → firstOf x y z w v < 8
-first-low true y z w v = omega arith
-first-low false true z w v = omega arith
-first-low false false true w v = omega arith
-first-low false false false true v = omega arith
-first-low false false false false true = omega arith
-first-low false false false false false = omega arith
+first-early : (x y z w v : Bool) → firstOf x y z w v ≢ 0 → Early (firstOf x y z w v)
+first-early true y z w v d = refl
+first-early false true z w v d = refl
+first-early false false true w v d = refl
+first-early false false false true v d = refl
+first-early false false false false true d = refl
+first-early false false false false false d = absurd (d refl)
 
 -- a call with no early cause has passed them all
 pub tested : (c : Call) → earlyCause c ≡ 0 → Tested c
@@ -91,49 +93,34 @@ tested c e =
       work-fits = ltb-false (c .workLength) (needOf c) (or-r (ltb (c .ownersLength) n) (ltb (c .workLength) (needOf c)) (f .4));
     }
 
--- an early cause is not 8 or above
-pub early-low : (c : Call) → earlyCause c < 8
+-- an early cause has an early number
+pub early-number : (c : Call) → earlyCause c ≢ 0 → Early (earlyCause c)
 unfolding earlyCause
-early-low c =
+early-number c d =
     let n = vertexCount (c .offsets) in
-    first-low
+    first-early
     (badOptions (c .options))
     (badCounts n (c .ranks))
     (overLimits n (length (c .neighbors)) (c .ranks) (c .options .«max_levels»))
     (badLists (c .offsets) (c .neighbors))
     (tooShort c)
+    d
+
+-- which is none of 0, 8 and 9
+pub early-some : (number : ℕ) → Early number → number ≢ 0
+early-some number a e = false≢true (subst Early e a)
+
+pub early-8 : (number : ℕ) → Early number → number ≢ 8
+early-8 number a e = false≢true (subst Early e a)
 
 -- ---- the from_owners check
-
--- the first of its four causes that holds
-abbrev checkedOf : Bool → Bool → Bool → Bool → ℕ
-checkedOf c2 c3 c12 c9 = cond c2 2 (cond c3 3 (cond c12 12 (cond c9 9 0)))
-
-checked-8 : (x y z w : Bool) → _≢_ {A = ℕ} (checkedOf x y z w) 8
-checked-8 true y z w e = omega arith
-checked-8 false true z w e = omega arith
-checked-8 false false true w e = omega arith
-checked-8 false false false true e = omega arith
-checked-8 false false false false e = omega arith
-
-checked-none : (x y z w : Bool) → _≡_ {A = ℕ} (checkedOf x y z w) 0 → w ≡ false
-checked-none true y z w e = absurd (omega arith)
-checked-none false true z w e = absurd (omega arith)
-checked-none false false true w e = absurd (omega arith)
-checked-none false false false true e = absurd (omega arith)
-checked-none false false false false e = refl
-
--- the check never answers 8, which is growth's alone
-pub fromOwners-8 : (k : ℕ) (owners : List ℕ) → fromOwners k owners ≢ 8
-unfolding fromOwners
-fromOwners-8 k owners = checked-8 (badRanks k (length owners)) (tooMany k (length owners)) (strayOwner k owners) (emptyRank k owners)
 
 -- owners that pass the check leave no rank empty
 pub none-empty : (k : ℕ) (owners : List ℕ) → fromOwners k owners ≡ 0 → (r : ℕ) → r < k → 1 ≤ owned owners r
 unfolding fromOwners emptyRank
 none-empty k owners e r h =
     let isEmpty : ℕ → Bool = λ r. eqb (owned owners r) 0 in
-    let f = checked-none (badRanks k (length owners)) (tooMany k (length owners)) (strayOwner k owners) (emptyRank k owners) e in
+    let f = checked k owners .2 e in
     let z = all-in (λ r. isEmpty r ≡ false) (range 0 k) r (any-none isEmpty (range 0 k) f) (elem-range r 0 k (omega arith) (omega arith)) in
     let d : owned owners r ≢ 0 = eqb-false (owned owners r) 0 z in
     omega arith
@@ -144,6 +131,7 @@ none-empty k owners e r h =
 pub record Coarser (rows : List (List ℕ)) (ws : List ℕ) (c : Coarse) : Type 0 where
   pub sound : Sound (c .rows)
   pub sized : length (c .group) ≡ length rows
+  pub fewer : length (c .rows) < length rows
   pub loads : (o : List ℕ) (r : ℕ) → length o ≡ length (c .rows) → load ws (map (at o) (c .group)) r ≡ load (c .weights) o r
 
 -- the steps kept, each from the lists of the one before
@@ -163,12 +151,12 @@ chained zero stop rows ws s n w = tt
 chained (suc l) stop rows ws s n w =
     let c = coarsenOnce rows ws in
     let sound = coarse-sound rows s ws n w in
-    let coarser : Coarser rows ws c = record { sound = sound; sized = coarse-sized rows s ws n w; loads = coarse-load rows s ws n w } in
     split (leb (length rows) stop)
     (λ p. rw p tt)
     (λ p. split (ltb (length (c .rows)) (length rows))
     (λ q.
     let less = ltb-true (length (c .rows)) (length rows) q in
+    let coarser : Coarser rows ws c = record { sound = sound; sized = coarse-sized rows s ws n w; fewer = less; loads = coarse-load rows s ws n w } in
     rw (p, q) (coarser, chained l stop (c .rows) (c .weights) sound (omega arith) (coarse-weighed rows ws)))
     (λ q. rw (p, q) tt))
 
@@ -238,14 +226,57 @@ linked-snoc (x ∷ y ∷ xs) l m a e = (a .0, linked-snoc (y ∷ xs) l m (a .1) 
 
 -- ---- a division on its way
 
--- it grew on g's lists, or it was refused before any growth
-pub data Grew (g : Growth) (t : Trace) : Type 0 where
-  grew : t .growth ≡ g → Grew g t
-  not-yet : t .growth ≡ noGrowth → t .levels ≡ [] → t .refusal ≢ 0 → t .refusal < 8 → Grew g t
+-- what a refusal after growth is
+abbrev pub Late : ℕ → ℕ → List Level → Type 0
+Late k number levels = ((number ≡ 8) × (levels ≡ [])) ⊎ ((number ≡ 9) × Emptied k levels)
 
-grew-on : (g : Growth) (t : Trace) → Grew g t → t .refusal ≡ 0 → t .growth ≡ g
-grew-on g t (grew e) z = e
-grew-on g t (not-yet e l some low) z = absurd (some z)
+-- it grew on g's lists, or it was refused before any growth
+pub data Grew (k : ℕ) (g : Growth) (t : Trace) : Type 0 where
+  grew : t .growth ≡ g → (t .refusal ≢ 0 → Late k (t .refusal) (t .levels)) → Grew k g t
+  not-yet : t .growth ≡ noGrowth → t .levels ≡ [] → Early (t .refusal) → Grew k g t
+
+grew-on : (k : ℕ) (g : Growth) (t : Trace) → Grew k g t → t .refusal ≡ 0 → t .growth ≡ g
+grew-on k g t (grew e late) z = e
+grew-on k g t (not-yet e l early) z = absurd (early-some (t .refusal) early z)
+
+-- a level without swaps
+abbrev Unswapped : Level → Type 0
+Unswapped l = l .swaps ≡ []
+
+module _ (b : Balance) (swapping : ℕ) where
+  -- the swaps of a level that these finer ones follow, with so many passes; none where the division was refused
+  abbrev pub due : Bool → List Level → Level → List Step
+  due true [] l = refineFinePairSwaps b (l .rows) (l .weights) listLength swapping (moved l) .steps
+  due true (m ∷ finer) l = []
+  due false finer l = []
+
+  abbrev pub Due : Bool → List Level → Type 0
+  Due x [] = Unit {0}
+  Due x (l ∷ ls) = (l .swaps ≡ due x ls l) × Due x ls
+
+  -- read at a level
+  pub due-at : (x : Bool) (ls coarser finer : List Level) (l : Level) → Due x ls → ls ≡ coarser ++ l ∷ finer → l .swaps ≡ due x finer l
+  due-at x [] [] finer l d e = absurd (nil≢cons e)
+  due-at x [] (y ∷ ys) finer l d e = absurd (nil≢cons e)
+  due-at x (m ∷ ms) [] finer l d e =
+      let p : m ≡ l = head-eq-of-cons-eq e in
+      let q : ms ≡ finer = tail-eq-of-cons-eq e in
+      rw (← p, ← q) (d .0)
+  due-at x (m ∷ ms) (y ∷ ys) finer l d e = due-at x ms ys finer l (d .1) (tail-eq-of-cons-eq e)
+
+  -- of levels without swaps, and of one more that has its own
+  due-none : (ls : List Level) → All Unswapped ls → Due false ls
+  due-none [] a = tt
+  due-none (l ∷ ls) a = (a .0, due-none ls (a .1))
+
+  due-snoc : (x : Bool) (ls : List Level) (l : Level) → All Unswapped ls → l .swaps ≡ due x [] l → Due x (ls ++ l ∷ [])
+  due-snoc x [] l a e = (e, tt)
+  due-snoc x (m ∷ ms) l a e = (inner x ms, due-snoc x ms l (a .1) e)
+    where
+      inner : (x : Bool) (ms : List Level) → m .swaps ≡ due x (ms ++ l ∷ []) m
+      inner true [] = a .0
+      inner true (n ∷ ns) = a .0
+      inner false ms = a .0
 
 module _ (b : Balance) where
   -- it has come through the level of these lists, and was not refused: its levels, the last of them, and where its owners stand
@@ -260,13 +291,16 @@ module _ (b : Balance) where
     pub swapped : Along (Swapped rows) after (moved last) (last .swaps)
     pub within : (r : ℕ) → r < b .ranks → load ws (moved last) r ≤ b .cap
     pub checked : fromOwners (b .ranks) (moved last) ≡ 0
+    pub enough : b .ranks ≤ length rows
     pub still : swapping ≡ 0 → t .owners ≡ moved last
 
   -- what holds of it, refused or not
-  pub record Solved (swapping : ℕ) (rows : List (List ℕ)) (ws : List ℕ) (cs : List Coarse) (t : Trace) : Type 0 where
-    pub growth : Grew (growthOn b rows ws cs) t
+  pub record Solved (passes swapping : ℕ) (rows : List (List ℕ)) (ws : List ℕ) (cs : List Coarse) (t : Trace) : Type 0 where
+    pub growth : Grew (b .ranks) (growthOn b rows ws cs) t
     pub unclaimed : t .refusal ≡ 8 → any (eqb unassigned) (grown (t .growth) (t .growth .turns)) ≡ true
-    pub fair : All (FairLevel b) (t .levels)
+    pub fair : All (FairLevel b passes) (t .levels)
+    pub swaps-due : Due b swapping (eqb (t .refusal) 0) (t .levels)
+    pub unswapped : swapping ≡ 0 → All Unswapped (t .levels)
     pub first : First (t .growth) (t .levels)
     pub linked : Linked (t .levels)
     pub rest : List Lists
@@ -283,27 +317,36 @@ module _ (b : Balance) where
     swaps-along true = swaps-made b rows ws listLength swapping o
     swaps-along false = tt
 
-    no-swaps : (x : Bool) → swapping ≡ 0 → foldl after o (swaps x) ≡ o
+    no-swaps : (x : Bool) → swapping ≡ 0 → swaps x ≡ []
     unfolding swaps refineFinePairSwaps repeat
     no-swaps true e = rw e
     no-swaps false e = refl
 
+    swaps-are : (x : Bool) (l : Level) → l .rows ≡ rows → l .weights ≡ ws → moved l ≡ o → swaps x ≡ due b swapping x [] l
+    unfolding swaps
+    swaps-are true l er ew eo = rw (er, ew, ← eo)
+    swaps-are false l er ew eo = refl
+
   -- it enters the level of these lists, below which lie those of `lower`
-  record Enters (rows : List (List ℕ)) (ws group : List ℕ) (cs : List Coarse) (lower : List Lists) (t : Trace) : Type 0 where
+  record Enters (passes : ℕ) (rows : List (List ℕ)) (ws group : List ℕ) (cs : List Coarse) (lower : List Lists) (t : Trace) : Type 0 where
     grows : t .growth ≡ growthOn b rows ws cs
-    fair : All (FairLevel b) (t .levels)
+    fair : All (FairLevel b passes) (t .levels)
+    unswapped : All Unswapped (t .levels)
     joins : (l : Level) → l .start ≡ t .owners → l .group ≡ group → First (t .growth) (t .levels ++ l ∷ []) × Linked (t .levels ++ l ∷ [])
     climbed : map listsOf (t .levels) ≡ lower
     top : ladder rows ws cs ≡ lower ++ record { rows = rows; weights = ws; group = group } ∷ []
     sized : length (t .owners) ≡ length rows
     within : (r : ℕ) → r < b .ranks → load ws (t .owners) r ≤ b .cap
+    enough : b .ranks ≤ length rows
+    few : length rows ≤ 16384
+    ranked : All (λ x. x < b .ranks) (t .owners)
 
-  module _ (passes : ℕ) where
+  module _ (passes : ℕ) (some-ranks : 1 ≤ b .ranks) (few-ranks : b .ranks ≤ 256) where
     refine-solved
         : (swapping : ℕ) (rows : List (List ℕ)) (ws group : List ℕ) (cs : List Coarse) (lower : List Lists) (t : Trace)
         → Sound rows
-        → Enters rows ws group cs lower t
-        → Solved swapping rows ws cs (refine b passes swapping rows ws group t)
+        → Enters passes rows ws group cs lower t
+        → Solved passes swapping rows ws cs (refine b passes swapping rows ws group t)
     unfolding refine swaps
     refine-solved swapping rows ws group cs lower t s i =
         let m = refineByCut b rows ws passes (t .owners) in
@@ -314,12 +357,17 @@ module _ (b : Balance) where
         let j = i .joins l refl refl in
         let made = moves-made b rows ws passes (t .owners) in
         let along = swaps-along rows ws swapping mo x in
-        let fair = level-fair b l s (i .sized) made along (moves-settled b rows ws passes (t .owners)) in
+        let fair = level-fair b passes l s (i .sized) refl refl along in
+        let size : length mo ≡ length rows = length-steps (m .steps) (t .owners) ∙ i .sized in
+        let ranked = moves-ranked b rows ws passes (t .owners) some-ranks (i .ranked) in
+        let empty = check-empty (b .ranks) mo some-ranks few-ranks (omega (arith, i .enough)) (omega (arith, i .few)) ranked in
         let whole : map listsOf (t .levels ++ l ∷ []) ≡ ladder rows ws cs = map-append listsOf (t .levels) (l ∷ []) ∙ rw (i .climbed, i .top) in
         record {
-          growth = grew (i .grows);
-          unclaimed = λ e. absurd (fromOwners-8 (b .ranks) mo e);
-          fair = all-append (FairLevel b) (t .levels) (l ∷ []) (i .fair) (fair, tt);
+          growth = grew (i .grows) (λ d. let w = empty d in inr (w .0, (t .levels, l, w .1 .0, refl, w .1 .1, w .1 .2)));
+          unclaimed = λ e. absurd (unchecked (b .ranks) mo 8 refl e);
+          fair = all-append (FairLevel b passes) (t .levels) (l ∷ []) (i .fair) (fair, tt);
+          swaps-due = due-snoc b swapping x (t .levels) l (i .unswapped) (swaps-are rows ws swapping mo x l refl refl refl);
+          unswapped = λ e. all-append Unswapped (t .levels) (l ∷ []) (i .unswapped) (no-swaps rows ws swapping mo x e, tt);
           first = j .0;
           linked = j .1;
           rest = [];
@@ -331,26 +379,29 @@ module _ (b : Balance) where
             whole = whole;
             rows-are = refl;
             owners-are = sym (foldl-append after (m .steps) sw (t .owners));
-            sized = length-steps (m .steps) (t .owners) ∙ i .sized;
+            sized = size;
             swapped = along;
             within = λ r h. moves-within (b .cap) rows ws r (m .steps) (t .owners) made (i .within r h);
             checked = e;
-            still = no-swaps rows ws swapping mo x;
+            enough = i .enough;
+            still = λ z. ap (foldl after mo) (no-swaps rows ws swapping mo x z);
           };
         }
 
     -- growth, refused or not
     record Grown (rows : List (List ℕ)) (ws : List ℕ) (t : Trace) : Type 0 where
-      growth : Grew (growthOn b rows ws []) t
+      growth : Grew (b .ranks) (growthOn b rows ws []) t
       none-yet : t .levels ≡ []
       unclaimed : t .refusal ≡ 8 → any (eqb unassigned) (grown (t .growth) (t .growth .turns)) ≡ true
       starts : t .refusal ≡ 0 → t .owners ≡ grown (t .growth) (t .growth .turns)
       sized : t .refusal ≡ 0 → length (t .owners) ≡ length rows
       within : t .refusal ≡ 0 → (r : ℕ) → r < b .ranks → load ws (t .owners) r ≤ b .cap
+      enough : t .refusal ≡ 0 → b .ranks ≤ length rows
+      ranked : t .refusal ≡ 0 → All (λ x. x < b .ranks) (t .owners)
 
-    grow-grown : b .ranks < unassigned → (rows : List (List ℕ)) (ws : List ℕ) → Grown rows ws (grow b passes rows ws)
+    grow-grown : (rows : List (List ℕ)) (ws : List ℕ) → Grown rows ws (grow b passes rows ws)
     unfolding grow
-    grow-grown few rows ws = go (any (ltb (b .cap)) ws) (ltb (length rows) (b .ranks)) refl
+    grow-grown rows ws = go (any (ltb (b .cap)) ws) (ltb (length rows) (b .ranks)) refl refl
       where
         g : Growth
         g = growthOn b rows ws []
@@ -362,52 +413,78 @@ module _ (b : Balance) where
         is8 true e = refl
         is8 false e = absurd (omega arith)
 
-        none : (number : ℕ) → number ≢ 0 → number < 8 → Grown rows ws (stopped number)
-        none number some low = record {
-          growth = not-yet refl refl some low;
-          none-yet = refl;
-          unclaimed = λ e. absurd (omega arith);
-          starts = λ e. absurd (some e);
-          sized = λ e. absurd (some e);
-          within = λ e. absurd (some e);
-        }
+        is0 : (x : Bool) → _≡_ {A = ℕ} (cond x 8 0) 0 → x ≡ false
+        is0 true e = absurd (omega arith)
+        is0 false e = refl
 
-        go : (x y : Bool) → any (ltb (b .cap)) ws ≡ x → Grown rows ws (cond x (stopped 6) (cond y (stopped 7) run))
-        go true y p = none 6 (λ e. omega arith) (omega arith)
-        go false true p = none 7 (λ e. omega arith) (omega arith)
-        go false false p = record {
-          growth = grew refl;
+        only8 : (x : Bool) → _≢_ {A = ℕ} (cond x 8 0) 0 → _≡_ {A = ℕ} (cond x 8 0) 8
+        only8 true d = refl
+        only8 false d = absurd (d refl)
+
+        none : (number : ℕ) → Early number → Grown rows ws (stopped number)
+        none number early =
+            let some : number ≢ 0 = early-some number early in
+            record {
+              growth = not-yet refl refl early;
+              none-yet = refl;
+              unclaimed = λ e. absurd (early-8 number early e);
+              starts = λ e. absurd (some e);
+              sized = λ e. absurd (some e);
+              within = λ e. absurd (some e);
+              enough = λ e. absurd (some e);
+              ranked = λ e. absurd (some e);
+            }
+
+        go
+            : (x y : Bool)
+            → any (ltb (b .cap)) ws ≡ x
+            → ltb (length rows) (b .ranks) ≡ y
+            → Grown rows ws (cond x (stopped 6) (cond y (stopped 7) run))
+        go true y p q = none 6 refl
+        go false true p q = none 7 refl
+        go false false p q = record {
+          growth = grew refl (λ d. inl (only8 (any (eqb unassigned) (grown g (g .turns))) d, refl));
           none-yet = refl;
           unclaimed = is8 (any (eqb unassigned) (grown g (g .turns)));
           starts = λ e. refl;
           sized = λ e. unfold weightedMultisource in length-grown g (g .turns);
           within = λ e r h. growth-within (b .cap) rows ws (farthestSeeds rows (b .ranks)) p r (λ q. omega arith);
+          enough = λ e. ltb-false (length rows) (b .ranks) q;
+          ranked = λ e.
+              subst (λ (k : ℕ). All (λ x. x < k) (grown g (g .turns))) (length-seeds rows (b .ranks))
+              (grown-ranked (b .cap) rows ws (farthestSeeds rows (b .ranks)) (is0 (any (eqb unassigned) (grown g (g .turns))) e));
         }
 
     coarsest-solved
-        : b .ranks < unassigned
-        → (swapping : ℕ) (rows : List (List ℕ)) (ws : List ℕ)
+        : (swapping : ℕ) (rows : List (List ℕ)) (ws : List ℕ)
         → Sound rows
-        → (let t = grow b passes rows ws in Solved swapping rows ws [] (cond (eqb (t .refusal) 0) (refine b passes swapping rows ws [] t) t))
-    coarsest-solved few swapping rows ws s =
+        → length rows ≤ 16384
+        → (let t = grow b passes rows ws in Solved passes swapping rows ws [] (cond (eqb (t .refusal) 0) (refine b passes swapping rows ws [] t) t))
+    coarsest-solved swapping rows ws s few =
         let t = grow b passes rows ws in
-        let g = grow-grown few rows ws in
+        let g = grow-grown rows ws in
         split (eqb (t .refusal) 0)
         (λ q.
         let z = eqb-true (t .refusal) 0 q in
         rw q (refine-solved swapping rows ws [] [] [] t s (record {
-          grows = grew-on (growthOn b rows ws []) t (g .growth) z;
+          grows = grew-on (b .ranks) (growthOn b rows ws []) t (g .growth) z;
           fair = rw (g .none-yet) tt;
+          unswapped = rw (g .none-yet) tt;
           joins = λ l e f. rw (g .none-yet) (e ∙ g .starts z, tt);
           climbed = rw (g .none-yet);
           top = refl;
           sized = g .sized z;
           within = g .within z;
+          enough = g .enough z;
+          few = few;
+          ranked = g .ranked z;
         })))
         (λ q. rw q (record {
           growth = g .growth;
           unclaimed = g .unclaimed;
           fair = rw (g .none-yet) tt;
+          swaps-due = rw (g .none-yet) tt;
+          unswapped = λ e. rw (g .none-yet) tt;
           first = rw (g .none-yet) tt;
           linked = rw (g .none-yet) tt;
           rest = ladder rows ws [];
@@ -418,11 +495,12 @@ module _ (b : Balance) where
     finer-solved
         : (c : Coarse) (cs : List Coarse) (swapping : ℕ) (rows : List (List ℕ)) (ws : List ℕ)
         → Sound rows
+        → length rows ≤ 16384
         → Coarser rows ws c
         → (t : Trace)
-        → Solved 0 (c .rows) (c .weights) cs t
-        → Solved swapping rows ws (c ∷ cs) (cond (eqb (t .refusal) 0) (refine b passes swapping rows ws (c .group) (takeOver (c .group) t)) t)
-    finer-solved c cs swapping rows ws s co t ih =
+        → Solved passes 0 (c .rows) (c .weights) cs t
+        → Solved passes swapping rows ws (c ∷ cs) (cond (eqb (t .refusal) 0) (refine b passes swapping rows ws (c .group) (takeOver (c .group) t)) t)
+    finer-solved c cs swapping rows ws s few co t ih =
         let top : Lists = record { rows = rows; weights = ws; group = c .group } in
         split (eqb (t .refusal) 0)
         (λ q.
@@ -431,8 +509,9 @@ module _ (b : Balance) where
         let still = d .still refl in
         let size : length (t .owners) ≡ length (c .rows) = ap length still ∙ d .sized in
         rw q (refine-solved swapping rows ws (c .group) (c ∷ cs) (ladder (c .rows) (c .weights) cs) (takeOver (c .group) t) s (record {
-          grows = grew-on (growthOn b (c .rows) (c .weights) cs) t (ih .growth) z;
+          grows = grew-on (b .ranks) (growthOn b (c .rows) (c .weights) cs) t (ih .growth) z;
           fair = ih .fair;
+          unswapped = ih .unswapped refl;
           joins = λ l e f.
               rw (d .levels-are) (
                 first-snoc (t .growth) (d .coarser) (d .last) l (rw (d .levels-are) at (ih .first)),
@@ -443,11 +522,16 @@ module _ (b : Balance) where
           sized = length-map (c .group) (at (t .owners)) ∙ co .sized;
           within = λ r h.
               omega (arith, co .loads (t .owners) r size, subst (λ (o : List ℕ). load (c .weights) o r ≤ b .cap) (sym still) (d .within r h));
+          enough = omega (arith, d .enough, co .fewer);
+          few = few;
+          ranked = taken-all (b .ranks) (t .owners) (c .group) some-ranks (rw still (checked-ranked (b .ranks) (moved (d .last)) (d .checked)));
         })))
         (λ q. rw q (record {
           growth = ih .growth;
           unclaimed = ih .unclaimed;
           fair = ih .fair;
+          swaps-due = rw q (due-none b swapping (t .levels) (ih .unswapped refl));
+          unswapped = λ e. ih .unswapped refl;
           first = ih .first;
           linked = ih .linked;
           rest = ih .rest ++ top ∷ [];
@@ -457,13 +541,14 @@ module _ (b : Balance) where
 
     -- by induction on the coarsening steps kept
     pub solve-solved
-        : b .ranks < unassigned
-        → (cs : List Coarse) (swapping : ℕ) (rows : List (List ℕ)) (ws : List ℕ)
+        : (cs : List Coarse) (swapping : ℕ) (rows : List (List ℕ)) (ws : List ℕ)
         → Sound rows
+        → length rows ≤ 16384
         → Chain rows ws cs
-        → Solved swapping rows ws cs (solve b passes swapping rows ws cs)
+        → Solved passes swapping rows ws cs (solve b passes swapping rows ws cs)
     unfolding solve
-    solve-solved few [] swapping rows ws s ch = coarsest-solved few swapping rows ws s
-    solve-solved few (c ∷ cs) swapping rows ws s ch =
+    solve-solved [] swapping rows ws s few ch = coarsest-solved swapping rows ws s few
+    solve-solved (c ∷ cs) swapping rows ws s few ch =
         let t = solve b passes 0 (c .rows) (c .weights) cs in
-        finer-solved c cs swapping rows ws s (ch .0) t (solve-solved few cs 0 (c .rows) (c .weights) (ch .0 .sound) (ch .1))
+        finer-solved c cs swapping rows ws s few (ch .0) t
+        (solve-solved cs 0 (c .rows) (c .weights) (ch .0 .sound) (omega (arith, ch .0 .fewer)) (ch .1))

@@ -33,7 +33,7 @@ abbrev pub grownFrom : Balance → List (List ℕ) → List ℕ → List ℕ
 grownFrom b rows ws = grown (growthFrom b rows ws) (growthFrom b rows ws .turns)
 
 module _ (b : Balance) (passes : ℕ) (rows : List (List ℕ)) (ws : List ℕ) where
-  -- "6 before 7 before 8"
+  -- 6 before 7 before 8
   pub grow-refusal
       : grow b passes rows ws .refusal
       ≡ cond (any (ltb (b .cap)) ws) 6 (cond (ltb (length rows) (b .ranks)) 7 (cond (any (eqb unassigned) (grownFrom b rows ws)) 8 0))

@@ -87,7 +87,7 @@ abbrev pub swapPasses : ℕ → ℕ
 swapPasses passes = saturating (passFactor * passes)
 
 module _ (b : Balance) (passes : ℕ) where
-  -- a level "makes its moves; then the `from_owners` check"; then its swaps, of which "the finest level only" has passes
+  -- a level "makes its moves", "then the `from_owners` check"; then its swaps, for which the "finest level only" has passes
   unfoldable pub refine : ℕ → List (List ℕ) → List ℕ → List ℕ → Trace → Trace
   refine swapping rows weights group t =
       let m = refineByCut b rows weights passes (t .owners) in

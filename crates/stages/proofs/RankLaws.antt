@@ -5,23 +5,18 @@ use mathlib.Core.Logic.{_⊎_, inl, inr, ⊎-elim}
 use mathlib.Core.Bool.{false, not}
 use mathlib.Core.List.{List, [], _∷_, map}
 use native.Mathlib.Omega.{arith}
-use lib.ListN.{length, set, replicate}
+use lib.ListN.{length, replicate}
 use lib.Dec.{leb, eqb}
 use borrow.Author.Tests.{eqb-false, leb-false}
 use Rattle.links.specs.Lists.{at, unassigned, any, foldl, range, All}
 use Rattle.links.specs.Owners.{badRanks, tooMany, strayOwner, fromOwners}
-use Rattle.links.proofs.ListLaws.{split, all-append, all-range, all-to, any-none}
+use Rattle.links.proofs.ListLaws.{split, all-append, all-set, all-range, all-to, any-none}
 use Rattle.links.proofs.RowLaws.{all-place}
 use Rattle.stages.specs.Growth.{Growing, Turn, Choice, passes, claims, restarts, isPass, afterChoice, afterTurn, turn, round, rounds, seedOwners, seeded, weightedMultisource, grown}
 
 -- a rank, or no owner yet
 abbrev Owned : ℕ → ℕ → Type 0
 Owned k x = (x < k) ⊎ (x ≡ unassigned)
-
-all-set : (P : ℕ → Type 0) (xs : List ℕ) (i x : ℕ) → P x → All P xs → All P (set xs i x)
-all-set P [] i x p a = tt
-all-set P (y ∷ ys) zero x p a = (p, a .1)
-all-set P (y ∷ ys) (suc i) x p a = (a .0, all-set P ys i x p (a .1))
 
 all-replicate : (P : ℕ → Type 0) (n x : ℕ) → P x → All P (replicate n x)
 all-replicate P zero x p = tt

@@ -23,7 +23,7 @@ nothing : {A : Type 0} (x : ℕ) → _≡_ {A = Option ℕ} none (some x) → A
 nothing x e = let z : _≡_ {A = ℕ} 0 1 = cc in absurd (omega arith)
 
 module _ (g : ℕ → ℕ) where
-  -- of two ranks with their gains: "greatest gain, then lowest crew"
+  -- of two ranks with their gains: "greatest gain .., then lowest crew"
   abbrev pub Beats : ℕ → ℕ → Type 0
   Beats a b = (g b < g a) ⊎ ((g a ≡ g b) × (a < b))
 

@@ -27,7 +27,7 @@ byDegree rows = concatMap (ofDegree rows) (falling (highestDegree rows))
 unfoldable pub shared : List (List ℕ) → ℕ → ℕ → ℕ
 shared rows v u = length (filter (λ w. elem w (row rows v)) (row rows u))
 
--- u before w as v's partner: "most shared neighbours, then lowest degree, then lowest number"; the last by rows that rise
+-- u before w as v's partner: "most shared neighbours .., then lowest degree, then lowest number"; the last by rows that rise
 unfoldable pub closer : List (List ℕ) → ℕ → ℕ → ℕ → Bool
 closer rows v u w = above (shared rows v u) (shared rows v w) (ltb (degree rows u) (degree rows w))
 

@@ -55,7 +55,7 @@ module _ (b : Balance) (rows : List (List ℕ)) (weights : List ℕ) where
   unfoldable pub mayJoin : List ℕ → ℕ → ℕ → Bool
   mayJoin owners v r = leb (load weights owners r + at weights v) (b .cap)
 
-  -- r before s as v's target: "greatest gain, then lowest crew"; the last by ranks that rise
+  -- r before s as v's target: "greatest gain .., then lowest crew"; the last by ranks that rise
   unfoldable pub preferred : List ℕ → ℕ → ℕ → ℕ → Bool
   preferred owners v r s = ltb (gain rows owners (move v s)) (gain rows owners (move v r))
 

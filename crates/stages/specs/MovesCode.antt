@@ -84,7 +84,7 @@ tempting b rows weights owners v =
 unfoldable pub offerOf : (cap weight load there home rank : ℕ) → Offer
 offerOf cap weight load there home rank = record { gain = cond (leb (load + weight) cap) (there - home) 0; rank = rank }
 
--- the better of two: "greatest gain, then lowest crew"; the first if they are the same
+-- the better of two: "greatest gain .., then lowest crew"; the first if they are the same
 unfoldable pub betterOffer : Offer → Offer → Offer
 betterOffer x y = cond (above (y .gain) (x .gain) (ltb (y .rank) (x .rank))) y x
 
