@@ -1,7 +1,13 @@
 pub mod CauseLaws
 pub mod LevelLaws
+pub mod CheckLaws
+pub mod PairedLaws
+pub mod QuietLaws
+pub mod PeopledLaws
+pub mod CoarseningLaws
 pub mod DivisionLaws
 pub mod Demand3Laws
+pub mod NineLaws
 pub mod SiteLaws
 pub mod FileLaws
 pub mod FileRowLaws

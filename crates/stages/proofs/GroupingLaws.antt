@@ -24,22 +24,22 @@ use Rattle.stages.proofs.LoadLaws.{loadBy, byIndex, load-by, by-ext, by
 
 module _ (rows : List (List ℕ)) (group : List ℕ) where
   -- g's vertices, and the groups of their neighbors
-  abbrev members : ℕ → List ℕ
+  abbrev pub members : ℕ → List ℕ
   members g = filter (λ v. eqb (at group v) g) (vertices rows)
 
-  abbrev touched : ℕ → List ℕ
+  abbrev pub touched : ℕ → List ℕ
   touched g = concatMap (λ v. map (at group) (row rows v)) (members g)
 
   -- a vertex v of g with a neighbor u of h
-  record Touches (g h v u : ℕ) : Type 0 where
-    from : v < length rows
-    to : u < length rows
-    of-g : at group v ≡ g
-    of-h : at group u ≡ h
-    linked : elem u (row rows v) ≡ true
+  pub record Touches (g h v u : ℕ) : Type 0 where
+    pub from : v < length rows
+    pub to : u < length rows
+    pub of-g : at group v ≡ g
+    pub of-h : at group u ≡ h
+    pub linked : elem u (row rows v) ≡ true
 
   module _ (s : Sound rows) where
-    touched-of : (g h : ℕ) → elem h (touched g) ≡ true → (v : ℕ) × (u : ℕ) × Touches g h v u
+    pub touched-of : (g h : ℕ) → elem h (touched g) ≡ true → (v : ℕ) × (u : ℕ) × Touches g h v u
     touched-of g h e =
         let n = length rows in
         let groups : ℕ → List ℕ = λ v. map (at group) (row rows v) in
@@ -81,7 +81,7 @@ module _ (rows : List (List ℕ)) (group : List ℕ) where
         (record { from = t .to; to = t .from; of-g = t .of-h; of-h = t .of-g; linked = s .symmetric u v (t .to) (t .from) ∙ t .linked })
 
     module _ (m : ℕ) where
-      elem-row : (g h : ℕ) → h < m → elem h (coarseRow rows group m g) ≡ (not (eqb h g) && elem h (touched g))
+      pub elem-row : (g h : ℕ) → h < m → elem h (coarseRow rows group m g) ≡ (not (eqb h g) && elem h (touched g))
       unfolding coarseRow
       elem-row g h k =
           elem-filter h (λ h. not (eqb h g) && elem h (touched g)) (range 0 m)
@@ -164,7 +164,7 @@ pub record Grouped (n : ℕ) (ws : List ℕ) (p : Pairing) : Type 0 where
   pub adds : (P : ℕ → Bool) → P unassigned ≡ false → loadBy P ws (p .group) ≡ byIndex P 0 (p .weights)
 
 -- the partner is another, and unmatched
-abbrev Apart : List ℕ → ℕ → Option ℕ → Type 0
+abbrev pub Apart : List ℕ → ℕ → Option ℕ → Type 0
 Apart group v none = Unit {0}
 Apart group v (some u) = (u ≢ v) × (at group u ≡ unassigned)
 
@@ -239,8 +239,9 @@ module _ (n : ℕ) (ws : List ℕ) (small : n < unassigned) (weighed : length ws
       let k = new-group p g in
       set-stays (set (p .group) v m) u m v k (rw (getD-set-same (p .group) v m 0 (rw (g .sized) h)) k)
 
-module _ (rows : List (List ℕ)) (s : Sound rows) (ws : List ℕ) (small : length rows < unassigned) (weighed : length ws ≡ length rows) where
-  apart : (group : List ℕ) (v : ℕ) → v < length rows → (o : Option ℕ) → partner rows group v ≡ o → Apart group v o
+module _ (rows : List (List ℕ)) (s : Sound rows) where
+  -- a vertex's partner is a vertex apart from it
+  pub apart : (group : List ℕ) (v : ℕ) → v < length rows → (o : Option ℕ) → partner rows group v ≡ o → Apart group v o
   unfolding partner
   apart group v h none e = tt
   apart group v h (some u) e =
@@ -252,12 +253,15 @@ module _ (rows : List (List ℕ)) (s : Sound rows) (ws : List ℕ) (small : leng
         eqb-true (at group u) unassigned (best-kept (closer rows v) free (row rows v) u e),
       )
 
+module _ (rows : List (List ℕ)) (s : Sound rows) (ws : List ℕ) (small : length rows < unassigned) (weighed : length ws ≡ length rows) where
   match-keeps : (p : Pairing) (v : ℕ) → v < length rows → Grouped (length rows) ws p → Grouped (length rows) ws (match rows ws p v)
   unfolding match
   match-keeps p v h g =
       let o = partner rows (p .group) v in
       split (eqb (at (p .group) v) unassigned)
-      (λ q. rw q (grouped-keeps (length rows) ws small weighed p v o g (eqb-true (at (p .group) v) unassigned q) (apart (p .group) v h o refl)))
+      (λ q.
+      let e = eqb-true (at (p .group) v) unassigned q in
+      rw q (grouped-keeps (length rows) ws small weighed p v o g e (apart rows s (p .group) v h o refl)))
       (λ q. rw q g)
 
   match-sets : (p : Pairing) (v x : ℕ) → Grouped (length rows) ws p → at (p .group) x ≢ unassigned → at (match rows ws p v .group) x ≢ unassigned
@@ -384,7 +388,7 @@ module _ (rows : List (List ℕ)) (s : Sound rows) (ws : List ℕ) (small : leng
   coarse-sized = pairing-grouped .sized
 
   -- what the groups that pass weigh, whatever the test
-  groups-weigh : (P : ℕ → Bool) → loadBy P ws (coarsenOnce rows ws .group) ≡ byIndex P 0 (coarsenOnce rows ws .weights)
+  pub groups-weigh : (P : ℕ → Bool) → loadBy P ws (coarsenOnce rows ws .group) ≡ byIndex P 0 (coarsenOnce rows ws .weights)
   unfolding coarsenOnce
   groups-weigh P =
       let p = pairing rows ws in

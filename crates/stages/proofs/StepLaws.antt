@@ -170,40 +170,47 @@ module _ (b : Balance) (rows : List (List ℕ)) (weights : List ℕ) where
       (λ p. absurd (true≢false (rw (p, j) at f)))
       (λ p. let z = ltb-false 0 (gain rows own (move v r)) p in omega arith)
 
-  destination-some
-      : (own : List ℕ) (v r : ℕ) → v < length rows → destination b rows weights own v ≡ some r → Moved (b .cap) rows weights own (move v r)
-  unfolding destination
-  destination-some own v r h e = split (mayLeave b rows weights own v)
-      (λ p. let t = target-some own v r (rw p at e) in (h, t .0, t .1))
+  -- a vertex that moves may leave, and goes to its target
+  pub destination-of
+      : (own : List ℕ) (v r : ℕ)
+      → destination b rows weights own v ≡ some r
+      → (b .floor + at weights v ≤ load weights own (at own v)) × (target b rows weights own v ≡ some r)
+  unfolding destination mayLeave
+  destination-of own v r e = split (mayLeave b rows weights own v)
+      (λ p. (leb-true (b .floor + at weights v) (load weights own (at own v)) p, rw p at e))
       (λ p. let z : _≡_ {A = Option ℕ} none (some r) = rw p at e in let y : _≡_ {A = ℕ} 0 1 = cc in absurd (omega arith))
 
-  pass-moved
-      : (vs : List ℕ)
-      → All (λ v. v < length rows) vs
-      → (own : List ℕ)
-      → Along (Moved (b .cap) rows weights) after own (movePass b rows weights vs own)
-  unfolding movePass after
-  pass-moved [] a own = tt
-  pass-moved (v ∷ vs) a own = go (destination b rows weights own v) refl (pass-moved vs (a .1) own) (λ r. pass-moved vs (a .1) (set own v r))
-    where
-      rest : List ℕ → List Step
-      rest o = movePass b rows weights vs o
+  module _
+      (P : List ℕ → Step → Type 0)
+      (each : (own : List ℕ) (v r : ℕ) → v < length rows → destination b rows weights own v ≡ some r → P own (move v r)) where
+    pass-along : (vs : List ℕ) → All (λ v. v < length rows) vs → (own : List ℕ) → Along P after own (movePass b rows weights vs own)
+    unfolding movePass after
+    pass-along [] a own = tt
+    pass-along (v ∷ vs) a own = go (destination b rows weights own v) refl (pass-along vs (a .1) own) (λ r. pass-along vs (a .1) (set own v r))
+      where
+        rest : List ℕ → List Step
+        rest o = movePass b rows weights vs o
 
-      go
-          : (d : Option ℕ)
-          → destination b rows weights own v ≡ d
-          → Along (Moved (b .cap) rows weights) after own (rest own)
-          → ((r : ℕ) → Along (Moved (b .cap) rows weights) after (set own v r) (rest (set own v r)))
-          → Along (Moved (b .cap) rows weights) after own (option d (rest own) (λ r. move v r ∷ rest (set own v r)))
-      go none e stays moves = stays
-      go (some r) e stays moves = (destination-some own v r (a .0) e, moves r)
+        go
+            : (d : Option ℕ)
+            → destination b rows weights own v ≡ d
+            → Along P after own (rest own)
+            → ((r : ℕ) → Along P after (set own v r) (rest (set own v r)))
+            → Along P after own (option d (rest own) (λ r. move v r ∷ rest (set own v r)))
+        go none e stays moves = stays
+        go (some r) e stays moves = (each own v r (a .0) e, moves r)
 
-  -- every move of a refinement
+    -- what holds of a vertex's move to its destination holds of every move of a refinement
+    pub moves-along : (passes : ℕ) (own : List ℕ) → Along P after own (refineByCut b rows weights passes own .steps)
+    unfolding refineByCut
+    moves-along passes own =
+        let vs = vertices rows in
+        repeat-along (movePass b rows weights vs) P (λ o. pass-along vs (all-vertices rows) o) passes own
+
+  -- every move of a refinement gains and has room
   pub moves-made : (passes : ℕ) (own : List ℕ) → Along (Moved (b .cap) rows weights) after own (refineByCut b rows weights passes own .steps)
-  unfolding refineByCut
   moves-made passes own =
-      let vs = vertices rows in
-      repeat-along (movePass b rows weights vs) (Moved (b .cap) rows weights) (λ o. pass-moved vs (all-vertices rows) o) passes own
+      moves-along (Moved (b .cap) rows weights) (λ o v r h e. let t = target-some o v r (destination-of o v r e .1) in (h, t .0, t .1)) passes own
 
   -- a refinement makes no more moves than there are cut links
   pub moves-few
