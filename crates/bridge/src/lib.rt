@@ -1,7 +1,6 @@
 // The library over numbers and slices, for a caller in another language: oracle/ links it and compares its answers with the Rust's.
 use links::AbtmMultilevelOptions;
 use links::AbtmMultilevelStats;
-use links::Assignment;
 use links::Count;
 use links::Owner;
 use multilevel::Answer;
@@ -59,10 +58,7 @@ pub extern "C" fn bridge_validate(
 pub extern "C" fn bridge_from_owners(ranks: u32, owners: &[u32]) -> u32
     ensures { λ r. ⌜ r ≡ fromOwners ranks (now (owners .entry)) ⌝ }
 {
-    match links::from_owners(ranks, owners) {
-        Assignment::Valid => 0,
-        Assignment::Refused(number) => number,
-    }
+    links::from_owners(ranks, owners).number()
 }
 
 // 0, or the refusal; the rank of vertex v, or 0, is written.
@@ -71,16 +67,13 @@ pub extern "C" fn bridge_owner_of(owners: &[u32], v: u64, rank: &mut u32) -> u32
     ensures number { λ r. ⌜ r ≡ ownerCause (now (owners .entry)) v ⌝ }
     ensures written { λ _. ⌜ now (rank .exit) ≡ at (now (owners .entry)) v ⌝ }
 {
-    match links::owner_of(owners, v) {
-        Owner::Rank(r) => {
-            *rank = r;
-            0
-        }
-        Owner::Refused(number) => {
-            *rank = 0;
-            number
-        }
-    }
+    *rank = 0;
+    let owner = links::owner_of(owners, v);
+    let Owner::Rank(r) = owner else {
+        return owner.number();
+    };
+    *rank = r;
+    0
 }
 
 // 0, or the refusal; the rank's number of vertices, or 0, is written.
@@ -89,16 +82,13 @@ pub extern "C" fn bridge_owned_count(ranks: u32, owners: &[u32], rank: u32, coun
     ensures number { λ r. ⌜ r ≡ countCause ranks rank ⌝ }
     ensures written { λ _. ⌜ now (count .exit) ≡ cond (ltb rank ranks) (owned (now (owners .entry)) rank) 0 ⌝ }
 {
-    match links::owned_count(ranks, owners, rank) {
-        Count::Owned(c) => {
-            *count = c;
-            0
-        }
-        Count::Refused(number) => {
-            *count = 0;
-            number
-        }
-    }
+    *count = 0;
+    let counted = links::owned_count(ranks, owners, rank);
+    let Count::Owned(n) = counted else {
+        return counted.number();
+    };
+    *count = n;
+    0
 }
 
 // 0, or the refusal.
@@ -169,16 +159,13 @@ pub extern "C" fn bridge_read_link_file(
 ) -> u32
     ensures { λ r. ⌜ ReadAsNumbers (now (file .entry)) (now (offsets .entry)) (now (neighbors .entry)) (now (offsets .exit)) (now (neighbors .exit)) (now (header .exit)) r ⌝ }
 {
-    match multilevel::read_link_file(file, offsets, neighbors) {
-        Read::Site(sizes) => {
-            *header = header_of(sizes);
-            0
-        }
-        Read::Refused(number) => {
-            *header = [0; 7];
-            number
-        }
-    }
+    *header = [0; 7];
+    let read = multilevel::read_link_file(file, offsets, neighbors);
+    let Read::Site(sizes) = read else {
+        return read.number();
+    };
+    *header = header_of(sizes);
+    0
 }
 
 // The eight stats, in their order.
@@ -216,14 +203,11 @@ pub extern "C" fn bridge_divide(
         imbalance_per_mille: options[2],
         refinement_passes: options[3],
     };
-    match multilevel::abtm_multilevel_partition(offsets, neighbors, ranks, chosen, owners, work) {
-        Answer::Divided(s) => {
-            *stats = numbers_of(s);
-            0
-        }
-        Answer::Refused(number) => {
-            *stats = [0; 8];
-            number
-        }
-    }
+    *stats = [0; 8];
+    let a = multilevel::abtm_multilevel_partition(offsets, neighbors, ranks, chosen, owners, work);
+    let Answer::Divided(s) = a else {
+        return a.number();
+    };
+    *stats = numbers_of(s);
+    0
 }

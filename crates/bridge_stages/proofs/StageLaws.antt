@@ -11,15 +11,13 @@ use Rattle.links.specs.Graph.{vertexCount}
 use Rattle.links.specs.Owners.{fromOwners}
 use Rattle.links.specs.Lists.{foldl}
 use Rattle.links.specs.Loads.{Balance}
-use Rattle.links.proofs.ListLaws.{split}
 use Rattle.links.proofs.RowLaws.{length-rows}
-use Rattle.stages.specs.Growth.{restartCount}
 use Rattle.stages.specs.Moves.{Step, after, refineByCut}
 use Rattle.stages.specs.Swaps.{refineFinePairSwaps}
 use Rattle.stages.specs.Level.{rowsAt, Laid, Ready}
-use Rattle.stages.specs.CoarsenCode.{Coarsenable, CoarsenedOnce}
+use Rattle.stages.specs.CoarsenCode.{Coarsenable, CoarsenedOnce, coarsenedValues}
 use Rattle.stages.specs.SeedsCode.{Seedable, Seeded}
-use Rattle.stages.specs.GrowthCode.{Growable, GrownTold, growthCause, grownNumber, grownValue, grownAnswer}
+use Rattle.stages.specs.GrowthCode.{Growable, GrownTold, growthCause, grownNumber, grownValue}
 use Rattle.stages.specs.MovesCode.{Refinable, RefinedByCut, movesAt, movedAt, refinedNumber, refinedValue}
 use Rattle.stages.specs.SwapsCode.{Swappable, RefinedBySwaps, swapsAt}
 use Rattle.stages.specs.declared.level.Limits.{Limits}
@@ -29,11 +27,7 @@ use Rattle.stages.specs.declared.growth.Grown.{Grown}
 use Rattle.stages.specs.declared.moves.Refined.{Refined}
 use Rattle.bridge_stages.specs.declared.lent.Place.{Place}
 use Rattle.bridge_stages.specs.Lent.{Lent, rowsIn, placeOf, lentCause, Limited, LevelIn, Entered}
-use Rattle.bridge_stages.specs.Stages.{orElse, coarsenedNumbers, CoarsenedHere, SeededHere, GrownHere, growthOf, growthCauseOf, MovedHere, balanceOf, movesOf, movedOf, SwappedHere, swapsOf}
-
--- the value that goes with a number
-answered : (x n : ℕ) → grownValue (grownAnswer x n) ≡ cond (eqb (grownNumber (grownAnswer x n)) 0) n 0
-answered x n = split (eqb x 0) (λ y. rw y) (λ y. rw (y, y))
+use Rattle.bridge_stages.specs.Stages.{orElse, CoarsenedHere, SeededHere, GrownHere, growthCauseOf, MovedHere, balanceOf, movesOf, movedOf, SwappedHere, swapsOf}
 
 abbrev pub within-limits : ℕ → ℕ → ℕ → Limits
 within-limits k floor cap = record { ranks = k; floor = floor; cap = cap }
@@ -55,7 +49,7 @@ module _ (s : Lent) (w w₁ : List ℕ) (number : ℕ) (e : Entered s w w₁ num
   told : (y : ℕ) → number ≡ orElse (lentCause s (length w)) y
   told y = e .cause ∙ rw (ne-eqb (lentCause s (length w)) 0 some)
 
-  pub coarsen-refused : CoarsenedHere s w w₁ (coarsenedNumbers Same) number
+  pub coarsen-refused : CoarsenedHere s w w₁ (coarsenedValues Same) number
   coarsen-refused =
       record {
         number-is = e .cause;
@@ -137,14 +131,14 @@ module _ (s : Lent) (w w₁ : List ℕ) (number : ℕ) (e : Entered s w w₁ num
     pub coarsened
         : (w₂ counts : List ℕ) (a : Coarsened)
         → CoarsenedOnce w₁ w₂ (p .level) (p .next) (p .scratch) a
-        → counts ≡ coarsenedNumbers a
+        → counts ≡ coarsenedValues a
         → CoarsenedHere s w w₂ counts 0
     coarsened w₂ counts a r₀ c =
         let r : CoarsenedOnce w₁ w₂ (placeOf s .level) (placeOf s .next) (placeOf s .scratch) a = rw at-place at r₀ in
         record {
           number-is = sym none;
           refused = λ h. absurd (h refl);
-          counts-are = c ∙ ap coarsenedNumbers (rw (here .offsets-are, here .neighbors-are, here .weights-are) at (r .answer));
+          counts-are = c ∙ ap coarsenedValues (rw (here .offsets-are, here .neighbors-are, here .weights-are) at (r .answer));
           group = λ _. rw (here .offsets-are, here .neighbors-are, here .weights-are) at (r .group);
           rows = λ _. rw (here .offsets-are, here .neighbors-are, here .weights-are) at (r .rows);
           weights = λ _. rw (here .offsets-are, here .neighbors-are, here .weights-are) at (r .weights);
@@ -186,16 +180,13 @@ module _ (s : Lent) (w w₁ : List ℕ) (number : ℕ) (e : Entered s w w₁ num
         unfolding growthCause
         cause-here = rw (here .offsets-are, here .neighbors-are, here .weights-are)
 
-        answer-here : a ≡ grownAnswer (growthCause w₁ (placeOf s .level) (s .ranks) cap) (restartCount (growthOf s cap .turns))
-        answer-here = rw (here .offsets-are, here .neighbors-are, here .weights-are) at (grown-here .answer)
-
         -- the answer as its number and value
         pub grown-told : GrownHere s cap w w₂ (grownValue a) (grownNumber a)
         grown-told =
             record {
               number-is = rw none (grown-here .number ∙ cause-here);
               refused = λ f. absurd (f none);
-              restarts-are = rw answer-here (answered (growthCause w₁ (placeOf s .level) (s .ranks) cap) (restartCount (growthOf s cap .turns)));
+              restarts-are = rw (grown-here .number) (rw (here .offsets-are, here .neighbors-are, here .weights-are) at (grown-here .value));
               owners = λ _. rw (here .offsets-are, here .neighbors-are, here .weights-are) at (grown-here .owners);
             }
 

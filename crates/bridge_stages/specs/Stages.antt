@@ -2,7 +2,7 @@
 use Prim.Native.Nat.{ℕ, _+_}
 use mathlib.Core.Path.{_≡_}
 use mathlib.Core.Bool.{false, cond}
-use mathlib.Core.List.{List, [], _∷_}
+use mathlib.Core.List.{List}
 use lib.ListN.{length}
 use lib.Dec.{eqb}
 use Rattle.links.specs.Lists.{foldl}
@@ -16,11 +16,10 @@ use Rattle.stages.specs.Growth.{Growth, weightedMultisource, grown, restartCoun
 use Rattle.stages.specs.Moves.{Step, after, refineByCut}
 use Rattle.stages.specs.Swaps.{refineFinePairSwaps}
 use Rattle.stages.specs.Level.{rowsAt, weightsAt, groupAt, ownersAt}
-use Rattle.stages.specs.CoarsenCode.{nextOf, answerOf}
+use Rattle.stages.specs.CoarsenCode.{nextOf, answerOf, coarsenedValues}
 use Rattle.stages.specs.SeedsCode.{seedsAt}
 use Rattle.stages.specs.GrowthCode.{tooHeavy, tooFew, leftCause}
-use Rattle.stages.specs.declared.coarsen.Coarsened.{Coarsened}
-use Rattle.stages.specs.declared.coarsen.Coarsened.the-variants.{Same, Smaller}
+use Rattle.stages.specs.declared.coarsen.Coarsened.the-variants.{Same}
 use Rattle.bridge_stages.specs.Lent.{Lent, rowsIn, placeOf, lentCause}
 
 -- the first number if it is not 0, else the second
@@ -29,18 +28,13 @@ orElse x y = cond (eqb x 0) y x
 
 -- ---- rule 3
 
--- the answer as four numbers: all 0 where there are no fewer groups
-abbrev pub coarsenedNumbers : Coarsened → List ℕ
-coarsenedNumbers Same = 0 ∷ 0 ∷ 0 ∷ 0 ∷ []
-coarsenedNumbers (Smaller groups entries pairs singletons) = groups ∷ entries ∷ pairs ∷ singletons ∷ []
-
 abbrev pub stepOf : Lent → Coarse
 stepOf s = coarsenOnce (rowsIn s) (s .weights)
 
 pub record CoarsenedHere (s : Lent) (w w′ counts : List ℕ) (number : ℕ) : Type 0 where
   pub number-is : number ≡ lentCause s (length w)
   pub refused : (number ≡ 0 → ⊥) → w′ ≡ w
-  pub counts-are : counts ≡ cond (eqb number 0) (coarsenedNumbers (answerOf (stepOf s) (vertexCount (s .offsets)))) (coarsenedNumbers Same)
+  pub counts-are : counts ≡ cond (eqb number 0) (coarsenedValues (answerOf (stepOf s) (vertexCount (s .offsets)))) (coarsenedValues Same)
   pub group : number ≡ 0 → groupAt w′ (placeOf s .level) ≡ stepOf s .group
   pub rows : number ≡ 0 → rowsAt w′ (nextOf (placeOf s .next) (stepOf s)) ≡ stepOf s .rows
   pub weights : number ≡ 0 → weightsAt w′ (nextOf (placeOf s .next) (stepOf s)) ≡ stepOf s .weights

@@ -102,13 +102,12 @@ pub extern "C" fn bridge_growth(
         return cause;
     }
     let p = place_of(offsets, neighbors, ranks);
-    match weighted_multisource_partition(work, p.level, p.scratch, index(ranks), cap) {
-        Grown::Owned(n) => {
-            *restarts = n;
-            0
-        }
-        Grown::Refused(number) => number,
-    }
+    let grown = weighted_multisource_partition(work, p.level, p.scratch, index(ranks), cap);
+    let Grown::Owned(n) = grown else {
+        return grown.number();
+    };
+    *restarts = n;
+    0
 }
 
 // Rule 6: the number of moves, or 0, is written; the number is that of the check of the owners.
@@ -138,13 +137,12 @@ pub extern "C" fn bridge_moves(
         floor,
         cap,
     };
-    match refine_by_cut(work, p.level, p.scratch, limits, passes) {
-        Refined::Moved(n) => {
-            *moves = n;
-            0
-        }
-        Refined::Refused(number) => number,
-    }
+    let refined = refine_by_cut(work, p.level, p.scratch, limits, passes);
+    let Refined::Moved(n) = refined else {
+        return refined.number();
+    };
+    *moves = n;
+    0
 }
 
 // Rule 7: the number of swaps, or 0, is written.

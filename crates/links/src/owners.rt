@@ -5,7 +5,7 @@ ghost use lib.ListN.{length};
 ghost use lib.Dec.{eqb};
 ghost use Rattle.links.specs.Lists.{at, any, range};
 ghost use Rattle.links.specs.Graph.{owned};
-ghost use Rattle.links.specs.Owners.{countsCause, strayOwner, fromOwners, Marked, AssignmentTold, OwnerTold, CountTold};
+ghost use Rattle.links.specs.Owners.{countsCause, strayOwner, fromOwners, Marked, assignmentNumber, ownerNumber, countNumber, AssignmentTold, OwnerTold, CountTold};
 use crate::parts::index;
 
 pub enum Assignment {
@@ -13,14 +13,53 @@ pub enum Assignment {
     Refused(u32),
 }
 
+impl Assignment {
+    // The refusal's number, 0 for none.
+    // Rules out: 0 for a refusal; 1 for a valid assignment.
+    pub fn number(self) -> u32
+        ensures { λ r. ⌜ r ≡ assignmentNumber self ⌝ }
+    {
+        match self {
+            Assignment::Valid => 0,
+            Assignment::Refused(number) => number,
+        }
+    }
+}
+
 pub enum Owner {
     Rank(u32),
     Refused(u32),
 }
 
+impl Owner {
+    // The refusal's number, 0 for none.
+    // Rules out: the rank in place of 0; 0 for a refusal.
+    pub fn number(self) -> u32
+        ensures { λ r. ⌜ r ≡ ownerNumber self ⌝ }
+    {
+        match self {
+            Owner::Rank(_) => 0,
+            Owner::Refused(number) => number,
+        }
+    }
+}
+
 pub enum Count {
     Owned(u64),
     Refused(u32),
+}
+
+impl Count {
+    // The refusal's number, 0 for none.
+    // Rules out: 9 for a rank that owns no vertex; 0 for a refusal.
+    pub fn number(self) -> u32
+        ensures { λ r. ⌜ r ≡ countNumber self ⌝ }
+    {
+        match self {
+            Count::Owned(_) => 0,
+            Count::Refused(number) => number,
+        }
+    }
 }
 
 // The owner of vertex v, or 11.

@@ -13,8 +13,8 @@ use Rattle.links.proofs.ListLaws.{split}
 use Rattle.links.proofs.PackLaws.{length-offsets}
 use Rattle.multilevel.specs.Causes.{Call}
 use Rattle.multilevel.specs.Division.{Outcome, refused, divided, division}
-use Rattle.multilevel.specs.Contract.{answerOf, ownersAfter, Partitioned}
-use Rattle.multilevel.specs.File.{sizesOf, vertexCountOf, linkCountOf, fileRows, fileOffsets, fileNeighbors, fileCause, readerCause, FileRead}
+use Rattle.multilevel.specs.Contract.{answerNumber, answerOf, ownersAfter, Partitioned}
+use Rattle.multilevel.specs.File.{sizesOf, vertexCountOf, linkCountOf, fileRows, fileOffsets, fileNeighbors, fileCause, readerCause, readNumber, FileRead}
 use Rattle.multilevel.specs.declared.file.Sizes.{Sizes}
 use Rattle.multilevel.specs.declared.file.Read.{Read}
 use Rattle.multilevel.specs.declared.file.Read.the-variants.{Site, Refused}
@@ -73,8 +73,8 @@ module _ {c : Call} {owners owners′ work work′ : List ℕ} {a : Answer} (p :
       let first : take n owners′ ≡ d .0 = ap (take n) all ∙ take-at (d .0) (drop (length (d .0)) owners) n size in
       (sym (ap length first ∙ size), d .1 ∙ ap (λ (w : List ℕ). divided w s) (sym first))
 
-  pub refusal-told : (number : ℕ) → a ≡ Declined number → division c .outcome ≡ refused number
-  refusal-told number e = outcome-refused (division c .outcome) number (sym (p .answer-is) ∙ e)
+  pub refusal-told : (n number : ℕ) → a ≡ Declined n → number ≡ answerNumber a → division c .outcome ≡ refused number
+  refusal-told n number e k = rw (k, e) (outcome-refused (division c .outcome) n (sym (p .answer-is) ∙ e))
 
 pub divided-text : (k : ℕ) (o : Outcome) (w : List ℕ) (s : AbtmMultilevelStats) → o ≡ divided w s → siteText k w s ≡ outcomeText k o
 unfolding outcomeText
@@ -149,20 +149,17 @@ module _ {b o n o′ n′ : List ℕ} {r : Read} (f : FileRead b o n o′ n′ r
       }
 
   -- with enough lent, a refusal is the file's own
-  pub file-refused : (number : ℕ) → r ≡ Refused number → length o ≡ 65 → length n ≡ 256 → refusalText number ≡ fileText b
+  pub file-refused
+      : (m number : ℕ) → r ≡ Refused m → number ≡ readNumber r → length o ≡ 65 → length n ≡ 256 → refusalText number ≡ fileText b
   unfolding fileText
-  file-refused number e ho hn =
+  file-refused m number e k ho hn =
       let same : readerCause b (length o) (length n) ≡ fileCause b = rw (ho, hn) (reader-enough b) in
-      let q = rw same at (f .answer) in
       split (eqb (fileCause b) 0)
       (λ p.
-      let t : r ≡ Site (sizesOf b) = rw p at q in
+      let t : r ≡ Site (sizesOf b) = rw (same, p) at (f .answer) in
       let z : _≡_ {A = ℕ} 0 1 = cc in
       absurd (omega arith))
-      (λ p.
-      let t : r ≡ Refused (fileCause b) = rw p at q in
-      let i : number ≡ fileCause b = cc in
-      rw (p, i))
+      (λ p. let i : number ≡ fileCause b = k ∙ f .number ∙ same in rw (p, i))
 
 pub site-text
     : {b offsets neighbors : List ℕ} {s : Sizes} (n e : ℕ)

@@ -23,10 +23,11 @@ fn tell_division(offsets: &[u32], neighbors: &[u32], s: Sizes, text: &mut [u8]) 
     let mut work = [0u32; 15396];
     let n = index(s.vertices);
     let options = s.options;
-    match abtm_multilevel_partition(offsets, neighbors, s.ranks, options, &mut owners, &mut work) {
-        Answer::Divided(stats) => write_site(text, s.ranks, &owners[..n], stats),
-        Answer::Refused(number) => write_refusal(text, number),
-    }
+    let a = abtm_multilevel_partition(offsets, neighbors, s.ranks, options, &mut owners, &mut work);
+    let Answer::Divided(stats) = a else {
+        return write_refusal(text, a.number());
+    };
+    write_site(text, s.ranks, &owners[..n], stats)
 }
 
 // The text of a link file's answer, for any bytes. A slice of less than 2,969 bytes is left as it was, and the answer is 0.
@@ -40,12 +41,11 @@ pub fn share(file: &[u8], text: &mut [u8]) -> usize
     }
     let mut offsets = [0u32; 65];
     let mut neighbors = [0u32; 256];
-    match read_link_file(file, &mut offsets, &mut neighbors) {
-        Read::Site(s) => {
-            let n = index(s.vertices) + 1;
-            let m = 2 * index(s.links);
-            tell_division(&offsets[..n], &neighbors[..m], s, text)
-        }
-        Read::Refused(number) => write_refusal(text, number),
-    }
+    let read = read_link_file(file, &mut offsets, &mut neighbors);
+    let Read::Site(s) = read else {
+        return write_refusal(text, read.number());
+    };
+    let n = index(s.vertices) + 1;
+    let m = 2 * index(s.links);
+    tell_division(&offsets[..n], &neighbors[..m], s, text)
 }

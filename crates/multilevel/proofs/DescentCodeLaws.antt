@@ -13,6 +13,7 @@ use Rattle.multilevel.specs.declared.driver.Answer.{Answer}
 use Rattle.multilevel.specs.declared.driver.Answer.the-variants.{Divided, Refused}
 use Rattle.multilevel.specs.declared.driver.Rules.{Rules}
 use Rattle.multilevel.specs.Room.{movedUp, Stacked, TakenOver}
+use Rattle.multilevel.specs.Contract.{answerNumber}
 use Rattle.multilevel.specs.DriverCode.{Placed, Refining, LevelRefined, LevelGrown, LevelSolved}
 use Rattle.multilevel.proofs.PlaceLaws.{placed-last}
 use Rattle.multilevel.proofs.DescentLaws.{answer-same, Fewer, answer-fewer, solved-small, solved-same, coarsenable, step-kept, step-placed, coarse-placed, solved-refused, stacked, refining, solved-finer}
@@ -55,9 +56,9 @@ module _ (w : List ℕ) (l : HierarchyLevel) (q : Rules) (left : ℕ) (p : Place
           below : LevelSolved w₁ w₂ (nextOf (movedUp l (q .unit)) (stepOf w l)) q (left - 1) a₂
           below = rw coarse-is at s
 
-          pub code-refused : (number : ℕ) → a₂ ≡ Refused number → LevelSolved w w₂ l q left a₂
-          code-refused number e =
-              rw e (solved-refused w l q left p (left - 1) one-less w₁ a₁ step w₂ a₂ below hs (fewer .fewer) number e)
+          pub code-refused : (n number : ℕ) → a₂ ≡ Refused n → number ≡ answerNumber a₂ → LevelSolved w w₂ l q left (Refused number)
+          code-refused n number e k =
+              rw (k, e) (solved-refused w l q left p (left - 1) one-less w₁ a₁ step w₂ a₂ below hs (fewer .fewer) n e)
 
           module _ (t : AbtmMultilevelStats) (r : a₂ ≡ Divided t) where
             pub code-stacked : Stacked w₂ l coarse

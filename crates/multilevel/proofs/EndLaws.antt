@@ -32,7 +32,7 @@ use Rattle.multilevel.specs.Demand3.{siteRows, balanceOf, keptSteps}
 use Rattle.multilevel.specs.Room.{SiteFits, SiteLaid}
 use Rattle.multilevel.specs.Measure.{Measurable, Measured}
 use Rattle.multilevel.specs.Driver.{solved, finestSwaps, Told}
-use Rattle.multilevel.specs.Contract.{answerOf, ownersAfter, Partitioned}
+use Rattle.multilevel.specs.Contract.{answerNumber, answerOf, ownersAfter, Partitioned}
 use Rattle.multilevel.specs.DriverCode.{Placed, LevelSolved, Finishing, LevelFinished, rulesFor, siteLevel, Divisible, SiteDivided}
 use Rattle.multilevel.proofs.DivisionLaws.{tested}
 use Rattle.multilevel.proofs.SolveLaws.{divided-of, told-ranked}
@@ -119,10 +119,10 @@ module _ (c : Call) (w : List ℕ) (d : Divisible c w) where
         told : Told (balanceOf c) (c .options .«refinement_passes») (siteRows c) (finestWeights (siteRows c)) (keptSteps c) (c .options .«max_levels») (ownersAt w₂ (siteLevel c)) a
         told = site-told c w d w₁ laid w₂ a above
 
-        pub code-refusal : (owners : List ℕ) (number : ℕ) → a ≡ Refused number → SiteDivided c owners owners a
-        code-refusal owners number e =
-            let out = finish-refused c (d .passed) (c .options .«max_levels») (ownersAt w₂ (siteLevel c)) number (rw e at told) in
-            record { answer-is = rw (out, e); owners-are = rw out }
+        pub code-refusal : (owners : List ℕ) (n number : ℕ) → a ≡ Refused n → number ≡ answerNumber a → SiteDivided c owners owners (Refused number)
+        code-refusal owners n number e k =
+            let out = finish-refused c (d .passed) (c .options .«max_levels») (ownersAt w₂ (siteLevel c)) n (rw e at told) in
+            record { answer-is = rw (out, k, e); owners-are = rw out }
 
         module _ (t : AbtmMultilevelStats) (r : a ≡ Divided t) where
           placed₂ : Placed w₂ (siteLevel c) (rulesFor c) (c .options .«max_levels»)

@@ -17,6 +17,8 @@ module _ (b o s : List ℕ) where
       let cause = readerCause b (length o) (length s) in
       record {
         answer = rw (e, ne-eqb x 0 d);
+        number = sym e;
+        sizes = rw (e, ne-eqb x 0 d);
         refused = λ n. (refl, refl);
         offsets-written = λ z. absurd (d (sym e ∙ z));
         neighbors-written = λ z. absurd (d (sym e ∙ z));
@@ -45,6 +47,8 @@ module _ (b o s : List ℕ) where
           rw (eq-eqb (fileCause b) 0 z, le-ltb (length o) (vertexCountOf b + 1) h, le-ltb (length s) (2 * linkCountOf b) k) in
           record {
             answer = rw e;
+            number = sym e;
+            sizes = rw e;
             refused = λ n. absurd (n e);
             offsets-written = λ q. w .offsets-are;
             neighbors-written = λ q. w .neighbors-are;

@@ -51,10 +51,10 @@ module _ (w : List ℕ) (l : HierarchyLevel) (q : Rules) (p : Placed w l q 0) wh
     below = omega (arith, p .ready .laid)
 
     -- refused
-    pub level-ungrown : (number : ℕ) → r ≡ grown.Refused number → LevelGrown w w₁ l q (Refused number)
-    level-ungrown number e =
+    pub level-ungrown : (n number : ℕ) → r ≡ grown.Refused n → number ≡ grownNumber r → LevelGrown w w₁ l q (Refused number)
+    level-ungrown n number e k =
         let cause = growthCause w l (q .limits .ranks) (q .limits .cap) in
-        let same : number ≡ cause = ap grownNumber (sym e) ∙ t .number in
+        let same : number ≡ cause = k ∙ t .number in
         record {
           told = λ left.
               coarsest-grown (balanceIn (q .limits)) (q .passes) (rowsAt w l) (weightsAt w l) left (ownersAt w₁ l) number (same ∙ cause-is)
@@ -62,7 +62,7 @@ module _ (w : List ℕ) (l : HierarchyLevel) (q : Rules) (p : Placed w l q 0) wh
           kept = grown-kept;
         }
       where
-        clash : grown.Refused number ≡ grownAnswer 0 (restartCount (growthAt w l (q .limits .ranks) (q .limits .cap) .turns)) → ⊥
+        clash : grown.Refused n ≡ grownAnswer 0 (restartCount (growthAt w l (q .limits .ranks) (q .limits .cap) .turns)) → ⊥
         clash y = let z : _≡_ {A = ℕ} 0 1 = cc in omega arith
 
         not-zero : growthCause w l (q .limits .ranks) (q .limits .cap) ≡ 0 → ⊥
@@ -125,7 +125,7 @@ module _ (w : List ℕ) (l : HierarchyLevel) (q : Rules) (p : Placed w l q 0) wh
           let n = all-vertices (p .ready) in
           let from : ownersAt w₁ l ≡ grow b (q .passes) rows ws .owners = owners-grown ∙ sym (ran .owners-are) in
           let told-restarts : restarts ≡ restartCount (growthAt w l (q .limits .ranks) (q .limits .cap) .turns) =
-          ap grownValue (sym e) ∙ t .value (t .number ∙ zero-cause) in
+          ap grownValue (sym e) ∙ t .value ∙ rw zero-cause in
           record {
             told = λ left. split (eqb number 0)
                 (λ y.

@@ -14,8 +14,9 @@ use Rattle.links.specs.declared.options.AbtmMultilevelStats.{AbtmMultilevelStat
 use Rattle.links.proofs.ListLaws.{split}
 use Rattle.links.proofs.PartLaws.{length-part, kept-wide}
 use Rattle.stages.specs.Level.{rowsAt, weightsAt, ownersAt, Ready, balanceIn}
-use Rattle.stages.specs.MovesCode.{Refinable, RefinedByCut}
+use Rattle.stages.specs.MovesCode.{refinedNumber, Refinable, RefinedByCut}
 use Rattle.stages.specs.declared.level.HierarchyLevel.{HierarchyLevel}
+use Rattle.stages.specs.declared.moves.Refined.{Refined}
 use Rattle.stages.specs.declared.moves.Refined.the-variants as refined
 use Rattle.stages.proofs.LevelLaws.{all-vertices, rows-kept, weights-kept, ready-kept, length-neighbors, ready-by}
 use Rattle.stages.proofs.StepLaws.{moves-few}
@@ -112,18 +113,20 @@ module _ (w : List ℕ) (l : HierarchyLevel) (q : Rules) (p : Refining w l q) wh
       }
 
   pub level-refused
-      : (w′ : List ℕ) (s : AbtmMultilevelStats) (number : ℕ)
-      → RefinedByCut w w′ l (q .scratch) (q .limits) (q .passes) (refined.Refused number)
+      : (w′ : List ℕ) (a : Refined) (s : AbtmMultilevelStats) (n number : ℕ)
+      → RefinedByCut w w′ l (q .scratch) (q .limits) (q .passes) a
+      → a ≡ refined.Refused n
+      → number ≡ refinedNumber a
       → LevelRefined w w′ l q s (Refused number)
   unfolding movesFrom movedFrom
-  level-refused w′ s number r =
+  level-refused w′ a s n number r e k =
       let cause = fromOwners (q .limits .ranks) (movedFrom (balanceIn (q .limits)) (q .passes) (rowsAt w l) (weightsAt w l) (ownersAt w l)) in
       record {
         owners-are = r .owners;
-        answer-is = split (eqb cause 0) (λ y. absurd (clash (length (movesFrom (balanceIn (q .limits)) (q .passes) (rowsAt w l) (weightsAt w l) (ownersAt w l))) (r .answer ∙ rw y))) (λ y. rw (y, ← (r .number)));
+        answer-is = split (eqb cause 0) (λ y. absurd (clash (length (movesFrom (balanceIn (q .limits)) (q .passes) (rowsAt w l) (weightsAt w l) (ownersAt w l))) (sym e ∙ r .answer ∙ rw y))) (λ y. rw (y, k, r .number));
         few = few-moves;
         kept = kept-all (l .owners) (q .scratch + 2 * q .limits .ranks) w′ w (r .kept) (omega (arith, p .placed .room));
       }
     where
-      clash : (m : ℕ) → refined.Refused number ≡ refined.Moved m → ⊥
-      clash m e = let z : _≡_ {A = ℕ} 0 1 = cc in omega arith
+      clash : (m : ℕ) → refined.Refused n ≡ refined.Moved m → ⊥
+      clash m y = let z : _≡_ {A = ℕ} 0 1 = cc in omega arith

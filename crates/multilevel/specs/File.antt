@@ -95,7 +95,7 @@ fileNeighbors b = packed (fileRows b)
 
 -- ---- what the reader tells and writes
 
--- "the file malformed: zero sizes"
+-- "zero sizes", with every refusal
 abbrev pub zeroSizes : Sizes
 zeroSizes =
     record {
@@ -114,14 +114,17 @@ abbrev pub readSizes : Read → Sizes
 readSizes (Site s) = s
 readSizes (Refused number) = zeroSizes
 
--- "the reader returns sizes and options, and writes the offsets and the rising neighbour lists, nothing beyond"; "a refusal leaves every output as
--- it was"
+-- "the reader returns sizes and options, and writes the offsets and the rising neighbour lists, nothing beyond"; a refusal leaves "everything" as it
+-- was
 pub record FileRead (b offsets neighbors offsets′ neighbors′ : List ℕ) (r : Read) : Type 0 where
   pub answer
       : r
       ≡ cond (eqb (readerCause b (length offsets) (length neighbors)) 0)
       (Site (sizesOf b))
       (Refused (readerCause b (length offsets) (length neighbors)))
+  -- so are its number and its sizes, "zero sizes" with a refusal
+  pub number : readNumber r ≡ readerCause b (length offsets) (length neighbors)
+  pub sizes : readSizes r ≡ cond (eqb (readerCause b (length offsets) (length neighbors)) 0) (sizesOf b) zeroSizes
   pub refused
       : (readerCause b (length offsets) (length neighbors) ≡ 0 → ⊥) → (offsets′ ≡ offsets) × (neighbors′ ≡ neighbors)
   pub offsets-written

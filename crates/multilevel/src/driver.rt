@@ -3,7 +3,7 @@ ghost use mathlib.Core.Path.{_≡_};
 ghost use Prim.Native.Nat.{_≤_};
 ghost use lib.ListN.{length};
 ghost use Rattle.multilevel.specs.Causes.{Limited, callOf};
-ghost use Rattle.multilevel.specs.Contract.{Partitioned};
+ghost use Rattle.multilevel.specs.Contract.{answerNumber, Partitioned};
 ghost use Rattle.multilevel.specs.Division.{swapPasses};
 ghost use Rattle.multilevel.specs.DriverCode.{Placed, Refining, LevelRefined, LevelGrown, LevelSolved, Finishing, LevelFinished, Divisible, SiteDivided, rulesWith};
 use crate::causes::early_cause;
@@ -39,6 +39,19 @@ pub enum Answer {
     Refused(u32),
 }
 
+impl Answer {
+    // The refusal's number, 0 for none.
+    // Rules out: the number of moves in place of 0; 0 for a refusal.
+    pub fn number(self) -> u32
+        ensures { λ r. ⌜ r ≡ answerNumber self ⌝ }
+    {
+        match self {
+            Answer::Divided(_) => 0,
+            Answer::Refused(number) => number,
+        }
+    }
+}
+
 // What a division goes by: the limits of a load, the passes, where coarsening stops; and in the work slice the room of a level and where the stages'
 // own room begins.
 pub struct Rules {
@@ -57,10 +70,10 @@ fn refine_level(work: &mut [u32], q: Rules, l: HierarchyLevel, s: AbtmMultilevel
     let scratch = q.scratch;
     let limits = q.limits;
     let r = refine_by_cut(work, l, scratch, limits, q.passes);
-    match r {
-        Refined::Moved(moves) => Answer::Divided(s.added_moves(moves)),
-        Refined::Refused(number) => Answer::Refused(number),
-    }
+    let Refined::Moved(moves) = r else {
+        return Answer::Refused(r.number());
+    };
+    Answer::Divided(s.added_moves(moves))
 }
 
 fn rules_of(n: usize, m: usize, ranks: u32, options: AbtmMultilevelOptions) -> Rules
@@ -102,15 +115,11 @@ fn grow_level(work: &mut [u32], q: Rules, l: HierarchyLevel) -> Answer
     let cap = limits.cap;
     let n = l.vertices;
     let g = weighted_multisource_partition(work, l, scratch, ranks, cap);
-    match g {
-        Grown::Owned(restarts) => refine_level(
-            work,
-            q,
-            l,
-            AbtmMultilevelStats::zero().grown(n as u64, restarts),
-        ),
-        Grown::Refused(number) => Answer::Refused(number),
-    }
+    let Grown::Owned(restarts) = g else {
+        return Answer::Refused(g.number());
+    };
+    let s = AbtmMultilevelStats::zero().grown(n as u64, restarts);
+    refine_level(work, q, l, s)
 }
 
 // A level gets its owners: from the coarser level, if a coarsening step is kept, else by growth; then its moves. `left` more levels may be made.
@@ -142,7 +151,7 @@ fn solve(work: &mut [u32], q: Rules, left: usize, l: HierarchyLevel) -> Answer
     let coarse = sized(next, groups, entries);
     let a = solve(work, q, left - 1, coarse);
     let Answer::Divided(s) = a else {
-        return a;
+        return Answer::Refused(a.number());
     };
     take_over(work, l, coarse);
     refine_level(work, q, l, s.added_pairs(pairs as u64, singletons as u64))
@@ -187,7 +196,7 @@ fn divide(
     lay_site(work, l, offsets, neighbors);
     let a = solve(work, q, levels, l);
     let Answer::Divided(s) = a else {
-        return a;
+        return Answer::Refused(a.number());
     };
     let lists = q.scratch + 5 * q.unit;
     let t = finish(work, q, l, lists, s);

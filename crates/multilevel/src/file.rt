@@ -4,7 +4,7 @@ ghost use mathlib.Core.Bool.{true, false};
 ghost use Prim.Native.Nat.{_+_, _-_, _*_, _≤_, _<_};
 ghost use lib.ListN.{length};
 ghost use Rattle.links.specs.Lists.{at};
-ghost use Rattle.multilevel.specs.File.{number, sizesOf, vertexCountOf, lowEnd, highEnd, overProgramLimits, linkBefore, goodLink, goodLinks, fileCause, fileRow, otherEnd, FileRead, Sized, Written, RowsWritten};
+ghost use Rattle.multilevel.specs.File.{number, sizesOf, vertexCountOf, lowEnd, highEnd, overProgramLimits, linkBefore, goodLink, goodLinks, fileCause, fileRow, otherEnd, readNumber, FileRead, Sized, Written, RowsWritten};
 use links::AbtmMultilevelOptions;
 use links::index;
 use links::wide;
@@ -20,6 +20,19 @@ pub struct Sizes {
 pub enum Read {
     Site(Sizes),
     Refused(u32),
+}
+
+impl Read {
+    // The refusal's number, 0 for none.
+    // Rules out: the number of vertices in place of 0; 10 for every refusal.
+    pub fn number(self) -> u32
+        ensures { λ r. ⌜ r ≡ readNumber self ⌝ }
+    {
+        match self {
+            Read::Site(_) => 0,
+            Read::Refused(number) => number,
+        }
+    }
 }
 
 fn byte(b: &[u8], i: usize) -> u32

@@ -1,6 +1,6 @@
 -- The whole growth stage: rule 4's seeds are sown, and growth from there is what the stage tells. Assumes nothing.
 use mathlib.Core.Path.{_≡_, sym, ap, ap₂, _∙_, subst}
-use mathlib.Core.Bool.{true, false, true≢false}
+use mathlib.Core.Bool.{true, false, true≢false, cond}
 use mathlib.Core.List.{List, [], _∷_, _++_}
 use Prim.Native.Nat.{ℕ, zero, suc, _+_, _*_, _≤_, _<_}
 use native.Mathlib.Omega.{arith}
@@ -75,7 +75,8 @@ module _ (rows : List (List ℕ)) where
       (next-fresh rows (farthestSeeds rows k) (omega (arith, length-seeds rows k)) .1)
       (seeds-apart k (omega arith))
 
-  seeds-good : (k : ℕ) → k ≤ length rows → Seeds (length rows) k (farthestSeeds rows k)
+  -- they are so
+  pub seeds-good : (k : ℕ) → k ≤ length rows → Seeds (length rows) k (farthestSeeds rows k)
   seeds-good k h = record {
     all = length-seeds rows k;
     inside = λ d q. all-place (λ v. v < length rows) (farthestSeeds rows k) d (seeds-below k h) (omega (arith, length-seeds rows k));
@@ -87,8 +88,8 @@ module _ (rows : List (List ℕ)) where
 number-of : (n e : ℕ) → grownNumber (grownAnswer n e) ≡ n
 number-of n e = split (eqb n 0) (λ p. rw p (sym (eqb-true n 0 p))) (λ p. rw p)
 
-value-of : (n e : ℕ) → n ≡ 0 → grownValue (grownAnswer n e) ≡ e
-value-of n e z = rw z
+value-of : (n e : ℕ) → grownValue (grownAnswer n e) ≡ cond (eqb n 0) e 0
+value-of n e = split (eqb n 0) (λ p. rw p) (λ p. rw p)
 
 told
     : (w w′ : List ℕ) (l : HierarchyLevel) (s k cap : ℕ) (r : Grown)
@@ -99,11 +100,10 @@ told
 told w w′ l s k cap r a o kept =
     let n = growthCause w l k cap in
     let e = restartCount (growthAt w l k cap .turns) in
-    let number : grownNumber r ≡ n = ap grownNumber a ∙ number-of n e in
     record {
       answer = a;
-      number = number;
-      value = λ z. ap grownValue a ∙ value-of n e (sym number ∙ z);
+      number = ap grownNumber a ∙ number-of n e;
+      value = ap grownValue a ∙ value-of n e;
       owners = o;
       kept = kept;
     }

@@ -11,7 +11,7 @@ use Rattle.links.proofs.ListLaws.{split}
 use Rattle.links.specs.Lists.{foldl}
 use Rattle.links.specs.Parts.{Kept}
 use Rattle.links.specs.Graph.{vertices}
-use Rattle.links.specs.Owners.{fromOwners, AssignmentTold}
+use Rattle.links.specs.Owners.{fromOwners, assignmentNumber, AssignmentTold}
 use Rattle.links.specs.declared.owners.Assignment.{Assignment}
 use Rattle.links.specs.declared.owners.Assignment.the-variants as assignment
 use Rattle.stages.specs.declared.moves.Refined.{Refined}
@@ -262,5 +262,6 @@ module _ {w w₁ : List ℕ} {l : HierarchyLevel} {scratch : ℕ} (limits : Limi
         pub was-valid : a ≡ assignment.Valid → RefinedByCut w w₃ l scratch limits passes (refined.Moved count)
         was-valid e = answered (refined.Moved count) (rw counted-moves (verdict-valid number moves (sym e ∙ told)))
 
-        pub was-refused : (n : ℕ) → a ≡ assignment.Refused n → RefinedByCut w w₃ l scratch limits passes (refined.Refused n)
-        was-refused n e = answered (refined.Refused n) (verdict-refused n number moves (sym e ∙ told))
+        pub was-refused
+            : (n x : ℕ) → a ≡ assignment.Refused n → x ≡ assignmentNumber a → RefinedByCut w w₃ l scratch limits passes (refined.Refused x)
+        was-refused n x e k = answered (refined.Refused x) (rw (k, e) (verdict-refused n number moves (sym e ∙ told)))

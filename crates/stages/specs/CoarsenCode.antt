@@ -2,7 +2,7 @@
 use Prim.Native.Nat.{ℕ, _+_, _*_, _≤_, _<_}
 use mathlib.Core.Path.{_≡_}
 use mathlib.Core.Bool.{cond}
-use mathlib.Core.List.{List, map}
+use mathlib.Core.List.{List, [], _∷_, map}
 use lib.ListN.{length}
 use lib.Dec.{ltb}
 use Rattle.links.specs.Lists.{at, sum}
@@ -53,8 +53,24 @@ answerOf c n =
     let smaller = Smaller groups (entriesOf c) (c .pairs) (c .singletons) in
     cond (ltb groups n) smaller Same
 
+-- the answer's number, always 0, for no step is refused: "A step that does not shrink is discarded"
+abbrev pub coarsenedNumber : Coarsened → ℕ
+coarsenedNumber Same = 0
+coarsenedNumber (Smaller groups entries pairs singletons) = 0
+
+-- its values: groups, entries, pairs and singletons, all 0 for a step that is discarded
+abbrev pub coarsenedValues : Coarsened → List ℕ
+coarsenedValues Same = 0 ∷ 0 ∷ 0 ∷ 0 ∷ []
+coarsenedValues (Smaller groups entries pairs singletons) = groups ∷ entries ∷ pairs ∷ singletons ∷ []
+
+-- those of a step
+abbrev pub valuesOf : Coarse → List ℕ
+valuesOf c = length (c .weights) ∷ entriesOf c ∷ c .pairs ∷ c .singletons ∷ []
+
 pub record CoarsenedOnce (w w′ : List ℕ) (l next : HierarchyLevel) (scratch : ℕ) (a : Coarsened) : Type 0 where
   pub answer : a ≡ answerOf (stepOf w l) (l .vertices)
+  pub number : coarsenedNumber a ≡ 0
+  pub values : coarsenedValues a ≡ cond (ltb (length (stepOf w l .weights)) (l .vertices)) (valuesOf (stepOf w l)) (0 ∷ 0 ∷ 0 ∷ 0 ∷ [])
   pub group : groupAt w′ l ≡ stepOf w l .group
   pub rows : rowsAt w′ (nextOf next (stepOf w l)) ≡ stepOf w l .rows
   pub weights : weightsAt w′ (nextOf next (stepOf w l)) ≡ stepOf w l .weights

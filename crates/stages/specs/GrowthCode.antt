@@ -266,6 +266,6 @@ growthCause w l k cap =
 pub record GrownTold (w w′ : List ℕ) (l : HierarchyLevel) (scratch k cap : ℕ) (r : Grown) : Type 0 where
   pub answer : r ≡ grownAnswer (growthCause w l k cap) (restartCount (growthAt w l k cap .turns))
   pub number : grownNumber r ≡ growthCause w l k cap
-  pub value : grownNumber r ≡ 0 → grownValue r ≡ restartCount (growthAt w l k cap .turns)
+  pub value : grownValue r ≡ cond (eqb (growthCause w l k cap) 0) (restartCount (growthAt w l k cap .turns)) 0
   pub owners : tooHeavy cap (weightsAt w l) ≡ false → tooFew (rowsAt w l) k ≡ false → ownersAt w′ l ≡ grownAt w l k cap
   pub kept : Kept (l .owners) (scratch + growthNeed (l .vertices) k) w′ w

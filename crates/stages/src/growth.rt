@@ -16,7 +16,7 @@ ghost use Rattle.links.specs.Best.{held};
 ghost use Rattle.links.specs.Graph.{row, degree, rowsOf, vertexCount, load, SoundLists};
 ghost use Rattle.stages.specs.Level.{weightsAt};
 ghost use Rattle.stages.specs.FrontierCode.{opens, stopsAt, Onward, Chain, Sought, FirstOpen, candidateAt, Lent, rowsIn, weightsIn, orderIn, memoryIn, vacantIn, GrowthLaid, parked, owning, begun, appended, GrowthReady, Stored};
-ghost use Rattle.stages.specs.GrowthCode.{openIn, openNow, SoughtIn, restartIn, Behind, Advanced, Claimed, TurnMade, Rounded, More, GrownTo, Sown, Blank, Cleared, Seated, Multisource, tooHeavy, roomAt, Growable, GrownTold};
+ghost use Rattle.stages.specs.GrowthCode.{openIn, openNow, SoughtIn, restartIn, Behind, Advanced, Claimed, TurnMade, Rounded, More, grownNumber, GrownTo, Sown, Blank, Cleared, Seated, Multisource, tooHeavy, roomAt, Growable, GrownTold};
 
 const UNASSIGNED: u32 = 4294967295;
 
@@ -483,6 +483,19 @@ fn next_round(i: usize, n: usize, claims: u64) -> usize
 pub enum Grown {
     Owned(u64),
     Refused(u32),
+}
+
+impl Grown {
+    // The refusal's number, 0 for none.
+    // Rules out: the restarts in place of 0; 8 for every refusal.
+    pub fn number(self) -> u32
+        ensures { λ r. ⌜ r ≡ grownNumber self ⌝ }
+    {
+        match self {
+            Grown::Owned(_) => 0,
+            Grown::Refused(number) => number,
+        }
+    }
 }
 
 // Rounds until every group is owned or one passes without a claim: 8 if a group is left.

@@ -10,7 +10,7 @@ ghost use Rattle.links.specs.Graph.{vertices};
 ghost use Rattle.links.specs.Owners.{AssignmentTold};
 ghost use Rattle.stages.specs.Level.{offsetsAt, neighborsAt, rowsAt, weightsAt, ownersAt, Ready, balanceIn};
 ghost use Rattle.stages.specs.Moves.{mayLeave, target, movePass};
-ghost use Rattle.stages.specs.MovesCode.{Roomed, Clear, Loaded, Tallied, Weighed, Moving, Shifted, Stepped, tempts, tempting, offerOf, betterOffer, offered, movesAt, Refinable, RefinedByCut};
+ghost use Rattle.stages.specs.MovesCode.{Roomed, Clear, Loaded, Tallied, Weighed, Moving, Shifted, Stepped, tempts, tempting, offerOf, betterOffer, offered, refinedNumber, movesAt, Refinable, RefinedByCut};
 use super::level::HierarchyLevel;
 use super::level::Limits;
 use links::Assignment;
@@ -30,6 +30,19 @@ pub struct Offer {
 pub enum Refined {
     Moved(u64),
     Refused(u32),
+}
+
+impl Refined {
+    // The refusal's number, 0 for none.
+    // Rules out: the number of moves in place of 0; 0 for a refusal.
+    pub fn number(self) -> u32
+        ensures { λ r. ⌜ r ≡ refinedNumber self ⌝ }
+    {
+        match self {
+            Refined::Moved(_) => 0,
+            Refined::Refused(number) => number,
+        }
+    }
 }
 
 // Where the row of v starts among the neighbors; the row of v + 1 starts where it ends.
@@ -347,8 +360,8 @@ pub fn refine_by_cut(
     weigh(work, l, scratch, ranks);
     let moves = all_passes(work, l, scratch, limits, passes);
     let checked = check_owners(&work[..], l, ranks);
-    match checked {
-        Assignment::Valid => Refined::Moved(moves),
-        Assignment::Refused(number) => Refined::Refused(number),
-    }
+    let Assignment::Valid = checked else {
+        return Refined::Refused(checked.number());
+    };
+    Refined::Moved(moves)
 }

@@ -47,14 +47,14 @@ element-copy-out-t22 c = search needs
 abtm-multilevel-partition-requires : tie.Need-abtm-multilevel-partition-requires
 abtm-multilevel-partition-requires c κs = search needs
 
-enum-known-s : tie.Need-enum-known-s
-enum-known-s c = search needs
+enum-known-a : tie.Need-enum-known-a
+enum-known-a c = search needs
 
-numbers-of-requires : tie.Need-numbers-of-requires
-numbers-of-requires c κs = search needs
+enum-told : tie.Need-enum-told
+enum-told c = search needs
 
-enum-known-number : tie.Need-enum-known-number
-enum-known-number c = search needs
+number-requires : tie.Need-number-requires
+number-requires c κs = search needs
 
 same-length : tie.Need-same-length
 same-length c = search needs
@@ -63,9 +63,15 @@ same-length-2 : tie.Need-same-length-2
 same-length-2 c = search needs
 
 returns : tie.Need-returns
+unfolding zeroStats
 returns c =
-    let c8 = c .before .before .before .before .before .before .before .before in
-    as-numbers (c8 .abtm-multilevel-partition .ensures) (sym (ap answerNumber (c .before .before .s .given .1))) (c .numbers-of .ensures ∙ sym (ap (λ (a : Answer). statsNumbers (answerStats a)) (c .before .before .s .given .1)))
+    let c1 = c .before in
+    let c7 = c1 .before .before .before .before .before .before in
+    as-numbers (c7 .abtm-multilevel-partition .ensures) (c .number .ensures)
+    (sym (ap (λ (a : Answer). statsNumbers (answerStats a)) (c1 .enum-told .given .1)))
+
+numbers-of-requires : tie.Need-numbers-of-requires
+numbers-of-requires c κs = search needs
 
 same-length-3 : tie.Need-same-length-3
 same-length-3 c = search needs
@@ -74,10 +80,11 @@ same-length-4 : tie.Need-same-length-4
 same-length-4 c = search needs
 
 returns-2 : tie.Need-returns-2
-unfolding zeroStats
 returns-2 c =
-    let c8 = c .before .before .before .before .before .before .before .before in
-    as-numbers (c8 .abtm-multilevel-partition .ensures) (sym (ap answerNumber (c .before .before .number .given .1))) (sym (ap (λ (a : Answer). statsNumbers (answerStats a)) (c .before .before .number .given .1)))
+    let c2 = c .before .before in
+    let c8 = c2 .before .before .before .before .before .before in
+    as-numbers (c8 .abtm-multilevel-partition .ensures) (sym (ap answerNumber (c2 .a .given .1)))
+    (c .numbers-of .ensures ∙ sym (ap (λ (a : Answer). statsNumbers (answerStats a)) (c2 .a .given .1)))
 
 pub bridge-divide-spec : {M : Type 1} → statement M
 bridge-divide-spec =
@@ -88,12 +95,13 @@ bridge-divide-spec =
     element-copy-out-t19
     element-copy-out-t22
     abtm-multilevel-partition-requires
-    enum-known-s
-    numbers-of-requires
-    enum-known-number
+    enum-known-a
+    enum-told
+    number-requires
     same-length
     same-length-2
     returns
+    numbers-of-requires
     same-length-3
     same-length-4
     returns-2)

@@ -8,23 +8,28 @@ use Rattle.bridge.proofs.bridge_owner_of.Tie as tie
 owner-of-requires : tie.Need-owner-of-requires
 owner-of-requires c κs = search needs
 
-enum-known-r : tie.Need-enum-known-r
-enum-known-r c = search needs
+enum-known-owner : tie.Need-enum-known-owner
+enum-known-owner c = search needs
 
-enum-known-number : tie.Need-enum-known-number
-enum-known-number c = search needs
+enum-told : tie.Need-enum-told
+enum-told c = search needs
+
+number-requires : tie.Need-number-requires
+number-requires c κs = search needs
 
 returns : tie.Need-returns
-returns c = (
-  sym (ap ownerNumber (c .before .r .given .1)) ∙ c .before .before .before .owner-of .ensures .number,
-  sym (ap ownerValue (c .before .r .given .1)) ∙ c .before .before .before .owner-of .ensures .value,
-)
+returns c =
+    let c1 = c .before in
+    let c3 = c1 .before .before in
+    (c .number .ensures ∙ c3 .owner-of .ensures .number, sym (ap ownerValue (c1 .enum-told .given .1)) ∙ c3 .owner-of .ensures .value)
 
 returns-2 : tie.Need-returns-2
-returns-2 c = (
-  sym (ap ownerNumber (c .before .number .given .1)) ∙ c .before .before .before .owner-of .ensures .number,
-  sym (ap ownerValue (c .before .number .given .1)) ∙ c .before .before .before .owner-of .ensures .value,
-)
+returns-2 c =
+    let c1 = c .before in
+    let c3 = c1 .before .before in (
+      sym (ap ownerNumber (c1 .owner .given .1)) ∙ c3 .owner-of .ensures .number,
+      sym (ap ownerValue (c1 .owner .given .1)) ∙ c3 .owner-of .ensures .value,
+    )
 
 pub bridge-owner-of-spec : {M : Type 1} → statement M
-bridge-owner-of-spec = tie.close (tie.spec owner-of-requires enum-known-r enum-known-number returns returns-2)
+bridge-owner-of-spec = tie.close (tie.spec owner-of-requires enum-known-owner enum-told number-requires returns returns-2)

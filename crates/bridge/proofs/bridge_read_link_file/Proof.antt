@@ -1,6 +1,6 @@
 -- `bridge::bridge_read_link_file` meets its contract: each case's number and header are those that are told. Assumes nothing.
 use Prim.Native.Nat.{ℕ}
-use mathlib.Core.Path.{_≡_, refl, ap, sym, _∙_}
+use mathlib.Core.Path.{_≡_, ap, sym, _∙_}
 use mathlib.Core.List.{List}
 use borrow.Author.Needs.{needs}
 use Rattle.multilevel.specs.declared.file.Read.{Read}
@@ -19,27 +19,20 @@ as-numbers f number-is header-is =
     record {
       number = number-is ∙ ap readNumber (f .answer);
       header = header-is ∙ ap (λ (r : Read). headerOf (readSizes r)) (f .answer);
-      lists =
-          record {
-            answer = refl;
-            refused = f .refused;
-            offsets-written = f .offsets-written;
-            neighbors-written = f .neighbors-written;
-            sound = f .sound;
-          };
+      lists = rw (f .answer) at f;
     }
 
 read-link-file-requires : tie.Need-read-link-file-requires
 read-link-file-requires c κs = search needs
 
-enum-known-sizes : tie.Need-enum-known-sizes
-enum-known-sizes c = search needs
+enum-known-read : tie.Need-enum-known-read
+enum-known-read c = search needs
 
-header-of-requires : tie.Need-header-of-requires
-header-of-requires c κs = search needs
+enum-told : tie.Need-enum-told
+enum-told c = search needs
 
-enum-known-number : tie.Need-enum-known-number
-enum-known-number c = search needs
+number-requires : tie.Need-number-requires
+number-requires c κs = search needs
 
 same-length : tie.Need-same-length
 same-length c = search needs
@@ -49,10 +42,12 @@ same-length-2 c = search needs
 
 returns : tie.Need-returns
 returns c =
-    as-numbers
-    (c .before .before .before .before .before .before .before .before .read-link-file .ensures)
-    (sym (ap readNumber (c .before .before .sizes .given .1)))
-    (c .header-of .ensures ∙ sym (ap (λ (r : Read). headerOf (readSizes r)) (c .before .before .sizes .given .1)))
+    let c1 = c .before in
+    let c7 = c1 .before .before .before .before .before .before in
+    as-numbers (c7 .read-link-file .ensures) (c .number .ensures) (sym (ap (λ (r : Read). headerOf (readSizes r)) (c1 .enum-told .given .1)))
+
+header-of-requires : tie.Need-header-of-requires
+header-of-requires c κs = search needs
 
 same-length-3 : tie.Need-same-length-3
 same-length-3 c = search needs
@@ -62,22 +57,23 @@ same-length-4 c = search needs
 
 returns-2 : tie.Need-returns-2
 returns-2 c =
-    as-numbers
-    (c .before .before .before .before .before .before .before .before .read-link-file .ensures)
-    (sym (ap readNumber (c .before .before .number .given .1)))
-    (sym (ap (λ (r : Read). headerOf (readSizes r)) (c .before .before .number .given .1)))
+    let c2 = c .before .before in
+    let c8 = c2 .before .before .before .before .before .before in
+    as-numbers (c8 .read-link-file .ensures) (sym (ap readNumber (c2 .read .given .1)))
+    (c .header-of .ensures ∙ sym (ap (λ (r : Read). headerOf (readSizes r)) (c2 .read .given .1)))
 
 pub bridge-read-link-file-spec : {M : Type 1} → statement M
 bridge-read-link-file-spec =
     tie.close
     (tie.spec
     read-link-file-requires
-    enum-known-sizes
-    header-of-requires
-    enum-known-number
+    enum-known-read
+    enum-told
+    number-requires
     same-length
     same-length-2
     returns
+    header-of-requires
     same-length-3
     same-length-4
     returns-2)

@@ -11,7 +11,9 @@ use Rattle.listing.proofs.site_file.share.Statement.{statement}
 use Rattle.listing.proofs.site_file.share.Tie as tie
 
 returns : tie.Need-returns
-returns c = (untold (fileText (c .before .before .before .args .file .now)) (c .before .before .before .args .text .now) shareRoom (omega arith), (omega arith, refl))
+returns c =
+    let a = c .before .before .before .args in
+    (untold (fileText (a .file .now)) (a .text .now) shareRoom (omega arith), (omega arith, refl))
 
 slice-aggregate-read-link-file : tie.Need-slice-aggregate-read-link-file
 slice-aggregate-read-link-file c = search needs
@@ -22,8 +24,29 @@ slice-aggregate-read-link-file-2 c = search needs
 read-link-file-requires : tie.Need-read-link-file-requires
 read-link-file-requires c κs = search needs
 
-enum-known-s : tie.Need-enum-known-s
-enum-known-s c = search needs
+enum-known-read : tie.Need-enum-known-read
+enum-known-read c = search needs
+
+enum-told : tie.Need-enum-told
+enum-told c = search needs
+
+number-requires : tie.Need-number-requires
+number-requires c κs = search needs
+
+write-refusal-requires : tie.Need-write-refusal-requires
+write-refusal-requires c κs = search needs
+
+same-length : tie.Need-same-length
+same-length c = search needs
+
+returns-2 : tie.Need-returns-2
+returns-2 c =
+    let c3 = c .before .before .before in
+    let c5 = c3 .before .before in
+    let f = c5 .before .before .before .before .read-link-file .ensures in
+    let t = c .before .before .write-refusal .ensures in
+    let same = file-refused f _ _ (c5 .enum-told .given .1) (c3 .number .ensures) refl refl in
+    (told-as (with-room t shareRoom (omega arith) (omega arith)) same, counts t)
 
 index-requires : tie.Need-index-requires
 index-requires c κs = search needs
@@ -39,58 +62,53 @@ mul-m c = search needs
 
 array-share-prefix-offsets : tie.Need-array-share-prefix-offsets
 array-share-prefix-offsets c =
-    let r = site-read (c .before .before .before .before .before .before .before .read-link-file .ensures) (c .before .before .before .s .given .0 .0) (c .before .before .before .s .given .1) in
+    let c3 = c .before .before .before in
+    let r = site-read (c3 .before .before .before .before .read-link-file .ensures) (c3 .read .given .0 .0) (c3 .read .given .1) in
     omega (arith, r .offsets-fit, c .before .index .ensures)
 
 slice-aggregate-tell-division : tie.Need-slice-aggregate-tell-division
 slice-aggregate-tell-division c =
-    let r = site-read (c .before .before .before .before .before .before .before .before .read-link-file .ensures) (c .before .before .before .before .s .given .0 .0) (c .before .before .before .before .s .given .1) in
-    sym (length-take-le (c .before .before .index .result + 1) (c .before .before .before .before .before .before .before .before .read-link-file .last .1 .0) (omega (arith, r .offsets-fit, c .before .before .index .ensures)))
+    let n = c .before .before .index in
+    let c4 = c .before .before .before .before in
+    let f = c4 .before .before .before .before .read-link-file in
+    let r = site-read (f .ensures) (c4 .read .given .0 .0) (c4 .read .given .1) in
+    sym (length-take-le (n .result + 1) (f .last .1 .0) (omega (arith, r .offsets-fit, n .ensures)))
 
 array-share-prefix-neighbors : tie.Need-array-share-prefix-neighbors
 array-share-prefix-neighbors c =
-    let r = site-read (c .before .before .before .before .before .before .before .before .read-link-file .ensures) (c .before .before .before .before .s .given .0 .0) (c .before .before .before .before .s .given .1) in
+    let c4 = c .before .before .before .before in
+    let r = site-read (c4 .before .before .before .before .read-link-file .ensures) (c4 .read .given .0 .0) (c4 .read .given .1) in
     omega (arith, r .neighbors-fit, c .before .index2 .ensures)
 
 slice-aggregate-tell-division-2 : tie.Need-slice-aggregate-tell-division-2
 slice-aggregate-tell-division-2 c =
-    let r = site-read (c .before .before .before .before .before .before .before .before .before .read-link-file .ensures) (c .before .before .before .before .before .s .given .0 .0) (c .before .before .before .before .before .s .given .1) in
-    sym (length-take-le (2 * c .before .before .index2 .result) (c .before .before .before .before .before .before .before .before .before .read-link-file .last .1 .1 .0) (omega (arith, r .neighbors-fit, c .before .before .index2 .ensures)))
+    let e = c .before .before .index2 in
+    let c5 = c .before .before .before .before .before in
+    let f = c5 .before .before .before .before .read-link-file in
+    let r = site-read (f .ensures) (c5 .read .given .0 .0) (c5 .read .given .1) in
+    sym (length-take-le (2 * e .result) (f .last .1 .1 .0) (omega (arith, r .neighbors-fit, e .ensures)))
 
 tell-division-requires : tie.Need-tell-division-requires
 tell-division-requires c κs =
-    let f = c .before .before .before .before .before .before .before .before .before .before .read-link-file in
-    let r = site-read (f .ensures) (c .before .before .before .before .before .before .s .given .0 .0) (c .before .before .before .before .before .before .s .given .1) in
     let n = c .before .before .before .before .index in
+    let c6 = c .before .before .before .before .before .before in
+    let f = c6 .before .before .before .before .read-link-file in
+    let r = site-read (f .ensures) (c6 .read .given .0 .0) (c6 .read .given .1) in
     let size = length-take-le (n .result + 1) (f .last .1 .0) (omega (arith, r .offsets-fit, n .ensures)) in
     (size ∙ ap (λ (x : ℕ). x + 1) (n .ensures), r .few, omega arith)
-
-enum-known-number : tie.Need-enum-known-number
-enum-known-number c = search needs
-
-write-refusal-requires : tie.Need-write-refusal-requires
-write-refusal-requires c κs = search needs
-
-same-length : tie.Need-same-length
-same-length c = search needs
-
-returns-2 : tie.Need-returns-2
-returns-2 c =
-    let r = site-read (c .before .before .before .before .before .before .before .before .before .before .before .before .before .read-link-file .ensures) (c .before .before .before .before .before .before .before .before .before .s .given .0 .0) (c .before .before .before .before .before .before .before .before .before .s .given .1) in
-    let n = c .before .before .before .before .before .before .before .index in
-    let e = c .before .before .before .before .before .before .index2 in
-    let t = c .before .before .tell-division .ensures in
-    (told-as t (site-text (n .result) (e .result) r (n .ensures) (e .ensures)), counts t)
 
 same-length-2 : tie.Need-same-length-2
 same-length-2 c = search needs
 
 returns-3 : tie.Need-returns-3
 returns-3 c =
-    let f = c .before .before .before .before .before .before .before .before .before .read-link-file .ensures in
-    let t = c .before .before .write-refusal .ensures in
-    let same = file-refused f (c .before .before .before .before .before .number .given .0 .0) (c .before .before .before .before .before .number .given .1) refl refl in
-    (told-as (with-room t shareRoom (omega arith) (omega arith)) same, counts t)
+    let c6 = c .before .before .before .before .before .before in
+    let e = c6 .index2 in
+    let n = c6 .before .index in
+    let c9 = c6 .before .before .before in
+    let r = site-read (c9 .before .before .before .before .read-link-file .ensures) (c9 .read .given .0 .0) (c9 .read .given .1) in
+    let t = c .before .before .tell-division .ensures in
+    (told-as t (site-text (n .result) (e .result) r (n .ensures) (e .ensures)), counts t)
 
 pub share-spec : {M : Type 1} → statement M
 share-spec =
@@ -100,7 +118,12 @@ share-spec =
     slice-aggregate-read-link-file
     slice-aggregate-read-link-file-2
     read-link-file-requires
-    enum-known-s
+    enum-known-read
+    enum-told
+    number-requires
+    write-refusal-requires
+    same-length
+    returns-2
     index-requires
     add-n
     index-requires-2
@@ -110,9 +133,5 @@ share-spec =
     array-share-prefix-neighbors
     slice-aggregate-tell-division-2
     tell-division-requires
-    enum-known-number
-    write-refusal-requires
-    same-length
-    returns-2
     same-length-2
     returns-3)

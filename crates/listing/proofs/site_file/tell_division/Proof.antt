@@ -21,22 +21,14 @@ slice-aggregate-abtm-multilevel-partition-2 c = search needs
 abtm-multilevel-partition-requires : tie.Need-abtm-multilevel-partition-requires
 abtm-multilevel-partition-requires c κs = search needs
 
-enum-known-stats : tie.Need-enum-known-stats
-enum-known-stats c = search needs
+enum-known-a : tie.Need-enum-known-a
+enum-known-a c = search needs
 
-array-share-prefix-owners : tie.Need-array-share-prefix-owners
-array-share-prefix-owners c = search needs
+enum-told : tie.Need-enum-told
+enum-told c = search needs
 
-slice-aggregate-write-site : tie.Need-slice-aggregate-write-site
-slice-aggregate-write-site c =
-    owners-told (c .before .before .before .before .before .before .before .abtm-multilevel-partition .ensures) (c .before .before .before .stats .given .0 .0) (c .before .before .before .before .before .before .before .before .before .before .before .index .result) (c .before .before .before .stats .given .1)
-    (c .before .before .before .before .before .before .before .before .before .before .before .before .before .before .before .pre .0 ∙ ap (λ (x : ℕ). x + 1) (sym (c .before .before .before .before .before .before .before .before .before .before .before .index .ensures))) .0
-
-write-site-requires : tie.Need-write-site-requires
-write-site-requires c κs = search needs
-
-enum-known-number : tie.Need-enum-known-number
-enum-known-number c = search needs
+number-requires : tie.Need-number-requires
+number-requires c κs = search needs
 
 write-refusal-requires : tie.Need-write-refusal-requires
 write-refusal-requires c κs = search needs
@@ -47,13 +39,29 @@ same-length c = search needs
 returns : tie.Need-returns
 unfolding callText
 returns c =
-    let p = c .before .before .before .before .before .before .before .before .before .before .abtm-multilevel-partition .ensures in
-    let a = c .before .before .before .before .before .before .before .before .before .before .before .before .before .before .before .before .before .before .args in
-    let d =
-    owners-told p (c .before .before .before .before .before .before .stats .given .0 .0) (c .before .before .before .before .before .before .before .before .before .before .before .before .before .before .index .result) (c .before .before .before .before .before .before .stats .given .1)
-    (c .before .before .before .before .before .before .before .before .before .before .before .before .before .before .before .before .before .before .pre .0 ∙ ap (λ (x : ℕ). x + 1) (sym (c .before .before .before .before .before .before .before .before .before .before .before .before .before .before .index .ensures))) in
-    told-as (with-room (c .before .before .write-site .ensures) shareRoom (omega (arith, d .0, c .before .before .before .before .before .before .before .before .before .before .before .before .before .before .index .ensures, c .before .before .before .before .before .before .before .before .before .before .before .before .before .before .before .before .before .before .pre .1)) (c .before .before .before .before .before .before .before .before .before .before .before .before .before .before .before .before .before .before .pre .2))
-    (divided-text (a .s .ranks) _ _ _ (d .1))
+    let c2 = c .before .before in
+    let c3 = c2 .before in
+    let c5 = c3 .before .before in
+    let c9 = c5 .before .before .before .before in
+    let c17 = c9 .before .before .before .before .before .before .before .before in
+    let p = c9 .abtm-multilevel-partition .ensures in
+    told-as (with-room (c2 .write-refusal .ensures) shareRoom (omega arith) (c17 .pre .2))
+    (refused-text (c17 .args .s .ranks) _ _ (refusal-told p _ _ (c5 .enum-told .given .1) (c3 .number .ensures)))
+
+array-share-prefix-owners : tie.Need-array-share-prefix-owners
+array-share-prefix-owners c = search needs
+
+slice-aggregate-write-site : tie.Need-slice-aggregate-write-site
+slice-aggregate-write-site c =
+    let c3 = c .before .before .before in
+    let c7 = c3 .before .before .before .before in
+    let n = c7 .before .before .before .before .index in
+    let c15 = c7 .before .before .before .before .before .before .before .before in
+    owners-told (c7 .abtm-multilevel-partition .ensures) (c3 .a .given .0 .0) (n .result) (c3 .a .given .1)
+    (c15 .pre .0 ∙ ap (λ (x : ℕ). x + 1) (sym (n .ensures))) .0
+
+write-site-requires : tie.Need-write-site-requires
+write-site-requires c κs = search needs
 
 same-length-2 : tie.Need-same-length-2
 same-length-2 c = search needs
@@ -61,10 +69,16 @@ same-length-2 c = search needs
 returns-2 : tie.Need-returns-2
 unfolding callText
 returns-2 c =
-    let p = c .before .before .before .before .before .before .before .before .before .abtm-multilevel-partition .ensures in
-    let a = c .before .before .before .before .before .before .before .before .before .before .before .before .before .before .before .before .before .args in
-    told-as (with-room (c .before .before .write-refusal .ensures) shareRoom (omega arith) (c .before .before .before .before .before .before .before .before .before .before .before .before .before .before .before .before .before .pre .2))
-    (refused-text (a .s .ranks) _ _ (refusal-told p (c .before .before .before .before .before .number .given .0 .0) (c .before .before .before .before .before .number .given .1)))
+    let c2 = c .before .before in
+    let c6 = c2 .before .before .before .before in
+    let c10 = c6 .before .before .before .before in
+    let n = c10 .before .before .before .before .index in
+    let c18 = c10 .before .before .before .before .before .before .before .before in
+    let p = c10 .abtm-multilevel-partition .ensures in
+    let d =
+    owners-told p (c6 .a .given .0 .0) (n .result) (c6 .a .given .1) (c18 .pre .0 ∙ ap (λ (x : ℕ). x + 1) (sym (n .ensures))) in
+    told-as (with-room (c2 .write-site .ensures) shareRoom (omega (arith, d .0, n .ensures, c18 .pre .1)) (c18 .pre .2))
+    (divided-text (c18 .args .s .ranks) _ _ _ (d .1))
 
 pub tell-division-spec : {M : Type 1} → statement M
 tell-division-spec =
@@ -74,13 +88,14 @@ tell-division-spec =
     slice-aggregate-abtm-multilevel-partition
     slice-aggregate-abtm-multilevel-partition-2
     abtm-multilevel-partition-requires
-    enum-known-stats
-    array-share-prefix-owners
-    slice-aggregate-write-site
-    write-site-requires
-    enum-known-number
+    enum-known-a
+    enum-told
+    number-requires
     write-refusal-requires
     same-length
     returns
+    array-share-prefix-owners
+    slice-aggregate-write-site
+    write-site-requires
     same-length-2
     returns-2)

@@ -21,13 +21,17 @@ rules-are c =
     c .rules-of .ensures ∙ ap (λ (x : ℕ). rulesWith x (length (a .neighbors .now)) (a .ranks) (a .options)) (c .before .vertex-count .ensures)
 
 level-is : (c : tie.After-level-at) → c .level-at .result ≡ siteLevel (call (c .before .before .before .before .before .before .before))
-level-is c = c .level-at .ensures ∙ ap (λ (x : ℕ). levelAt x (length (c .before .before .before .before .before .before .before .args .neighbors .now)) 0) (c .before .before .vertex-count .ensures)
+level-is c =
+    let a = c .before .before .before .before .before .before .before .args in
+    c .level-at .ensures ∙ ap (λ (x : ℕ). levelAt x (length (a .neighbors .now)) 0) (c .before .before .vertex-count .ensures)
 
 vertex-count-requires : tie.Need-vertex-count-requires
 vertex-count-requires c κs = search needs
 
 rules-of-requires : tie.Need-rules-of-requires
-rules-of-requires c κs = rw (c .vertex-count .ensures) (site-limits (call (c .before .before .before .before .before)) (c .before .before .before .before .before .args .work .now) (c .before .before .before .before .before .pre))
+rules-of-requires c κs =
+    let s = c .before .before .before .before .before in
+    rw (c .vertex-count .ensures) (site-limits (call s) (s .args .work .now) (s .pre))
 
 level-at-requires : tie.Need-level-at-requires
 level-at-requires c κs = search needs
@@ -52,15 +56,22 @@ enum-known-a c = search needs
 enum-told : tie.Need-enum-told
 enum-told c = search needs
 
+number-requires : tie.Need-number-requires
+number-requires c κs = search needs
+
 same-length : tie.Need-same-length
 same-length c = search needs
 
 returns : tie.Need-returns
 returns c =
-    let l = c .before .before .before .before .before .before .before .before .before .before in
+    let c1 = c .before in
+    let c5 = c1 .before .before .before .before in
+    let c9 = c5 .before .before .before .before in
+    let l = c9 .before .before in
     let r = l .before in
     let s = r .before .before .before .before .before .before in
-    code-refusal (call s) (s .args .work .now) (s .pre) _ (rules-are r) _ (level-is l) _ (c .before .before .before .before .before .before .before .before .lay-site .ensures) _ _ (c .before .before .before .before .solve .ensures) _ _ (c .enum-told .given .1)
+    code-refusal (call s) (s .args .work .now) (s .pre) _ (rules-are r) _ (level-is l) _ (c9 .lay-site .ensures)
+    _ _ (c5 .solve .ensures) _ _ _ (c1 .enum-told .given .1) (c .number .ensures)
 
 mul-lists : tie.Need-mul-lists
 mul-lists c =
@@ -78,17 +89,26 @@ add-lists c =
 
 finish-requires : tie.Need-finish-requires
 finish-requires c κs =
-    let l = c .before .before .before .before .before .before .before .before .before .before .before .before .before .before in
+    let c4 = c .before .before .before .before in
+    let c8 = c4 .before .before .before .before in
+    let c12 = c8 .before .before .before .before in
+    let l = c12 .before .before in
     let r = l .before in
     let s = r .before .before .before .before .before .before in
-    code-finishing (call s) (s .args .work .now) (s .pre) _ (rules-are r) _ (level-is l) _ (c .before .before .before .before .before .before .before .before .before .before .before .before .lay-site .ensures) _ _ (c .before .before .before .before .before .before .before .before .solve .ensures) _ (c .before .before .before .before .a .given .1)
+    code-finishing (call s) (s .args .work .now) (s .pre) _ (rules-are r) _ (level-is l) _ (c12 .lay-site .ensures)
+    _ _ (c8 .solve .ensures) _ (c4 .a .given .1)
 
 write-owners-requires : tie.Need-write-owners-requires
 write-owners-requires c κs =
-    let l = c .before .before .before .before .before .before .before .before .before .before .before .before .before .before .before .before .before .before .before in
+    let c4 = c .before .before .before .before in
+    let c9 = c4 .before .before .before .before .before in
+    let c13 = c9 .before .before .before .before in
+    let c17 = c13 .before .before .before .before in
+    let l = c17 .before .before in
     let r = l .before in
     let s = r .before .before .before .before .before .before in
-    code-room (call s) (s .args .work .now) (s .pre) _ (rules-are r) _ (level-is l) _ (c .before .before .before .before .before .before .before .before .before .before .before .before .before .before .before .before .before .lay-site .ensures) _ _ (c .before .before .before .before .before .before .before .before .before .before .before .before .before .solve .ensures) _ (c .before .before .before .before .before .before .before .before .before .a .given .1) _ _ (c .before .before .before .before .finish .ensures)
+    code-room (call s) (s .args .work .now) (s .pre) _ (rules-are r) _ (level-is l) _ (c17 .lay-site .ensures)
+    _ _ (c13 .solve .ensures) _ (c9 .a .given .1) _ _ (c4 .finish .ensures)
 
 same-length-2 : tie.Need-same-length-2
 same-length-2 c = search needs
@@ -102,10 +122,15 @@ same-length-3 c =
 
 returns-2 : tie.Need-returns-2
 returns-2 c =
-    let l = c .before .before .before .before .before .before .before .before .before .before .before .before .before .before .before .before .before .before .before .before .before .before in
+    let c7 = c .before .before .before .before .before .before .before in
+    let c12 = c7 .before .before .before .before .before in
+    let c16 = c12 .before .before .before .before in
+    let c20 = c16 .before .before .before .before in
+    let l = c20 .before .before in
     let r = l .before in
     let s = r .before .before .before .before .before .before in
-    code-divided (call s) (s .args .work .now) (s .pre) _ (rules-are r) _ (level-is l) _ (c .before .before .before .before .before .before .before .before .before .before .before .before .before .before .before .before .before .before .before .before .lay-site .ensures) _ _ (c .before .before .before .before .before .before .before .before .before .before .before .before .before .before .before .before .solve .ensures) _ (c .before .before .before .before .before .before .before .before .before .before .before .before .a .given .1) _ _ (c .before .before .before .before .before .before .before .finish .ensures) _ _ (c .before .before .write-owners .ensures)
+    code-divided (call s) (s .args .work .now) (s .pre) _ (rules-are r) _ (level-is l) _ (c20 .lay-site .ensures)
+    _ _ (c16 .solve .ensures) _ (c12 .a .given .1) _ _ (c7 .finish .ensures) _ _ (c .before .before .write-owners .ensures)
 
 pub divide-spec : {M : Type 1} → statement M
 divide-spec =
@@ -118,6 +143,7 @@ divide-spec =
     solve-requires
     enum-known-a
     enum-told
+    number-requires
     same-length
     returns
     mul-lists

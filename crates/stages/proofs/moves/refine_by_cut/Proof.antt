@@ -37,14 +37,33 @@ check-owners-requires c κs =
 enum-told : tie.Need-enum-told
 enum-told c = search needs
 
-enum-known-checked : tie.Need-enum-known-checked
-enum-known-checked c = search needs
+enum-told-2 : tie.Need-enum-told-2
+enum-told-2 c = search needs
+
+number-requires : tie.Need-number-requires
+number-requires c κs = search needs
 
 same-length : tie.Need-same-length
 same-length c = search needs
 
 returns : tie.Need-returns
 returns c =
+    let c1 = c .before in
+    let c3 = c1 .before .before in
+    let c7 = c3 .before .before .before .before in
+    let c11 = c7 .before .before .before .before in
+    let c15 = c11 .before .before .before .before in
+    let s = c15 .before .before .before in
+    let k = c15 .clear .ensures in
+    let d = c11 .weigh .ensures in
+    was-refused (s .args .limits) (s .pre) (k .1) (k .0) (d .0) (d .1) (s .args .passes) (c7 .all-passes .ensures) (c3 .check-owners .result)
+    (c3 .check-owners .ensures) _ _ (c1 .enum-told2 .given .1) (c .number .ensures)
+
+same-length-2 : tie.Need-same-length-2
+same-length-2 c = search needs
+
+returns-2 : tie.Need-returns-2
+returns-2 c =
     let c2 = c .before .before in
     let c6 = c2 .before .before .before .before in
     let c10 = c6 .before .before .before .before in
@@ -54,21 +73,6 @@ returns c =
     let d = c10 .weigh .ensures in
     was-valid (s .args .limits) (s .pre) (k .1) (k .0) (d .0) (d .1) (s .args .passes) (c6 .all-passes .ensures) (c2 .check-owners .result)
     (c2 .check-owners .ensures) (c .enum-told .given .1)
-
-same-length-2 : tie.Need-same-length-2
-same-length-2 c = search needs
-
-returns-2 : tie.Need-returns-2
-returns-2 c =
-    let c3 = c .before .before .before in
-    let c7 = c3 .before .before .before .before in
-    let c11 = c7 .before .before .before .before in
-    let c15 = c11 .before .before .before .before in
-    let s = c15 .before .before .before in
-    let k = c15 .clear .ensures in
-    let d = c11 .weigh .ensures in
-    was-refused (s .args .limits) (s .pre) (k .1) (k .0) (d .0) (d .1) (s .args .passes) (c7 .all-passes .ensures) (c3 .check-owners .result)
-    (c3 .check-owners .ensures) _ (c .before .checked .given .1)
 
 pub refine-by-cut-spec : {M : Type 1} → statement M
 refine-by-cut-spec =
@@ -80,7 +84,8 @@ refine-by-cut-spec =
     all-passes-requires
     check-owners-requires
     enum-told
-    enum-known-checked
+    enum-told-2
+    number-requires
     same-length
     returns
     same-length-2
