@@ -1,15 +1,20 @@
 /*
  * Hipstern's calls for the season planner: the most and the least that a crew's load may be, and the check of a link file.
  *
- * `rt staticlib multilevel` writes the archive to link, target/staticlib/libmultilevel.a (Linux, x86-64). The calls keep
- * nothing between them, allocate nothing and write nothing: any number of threads may make them at once.
- * planner.c uses all three; planner/run.sh builds it.
+ * `rt staticlib multilevel` writes the archive to link, target/staticlib/libmultilevel.a (Linux, x86-64), and a program is
+ * built over it by `cc -I planner program.c target/staticlib/libmultilevel.a`. The calls keep nothing between them, allocate
+ * nothing and write nothing: any number of threads may make them at once. The header serves C99 and C++.
+ * planner.c uses all three, and planner/run.sh builds it; caps.cpp is a program in C++.
  */
 #ifndef HIPSTERN_H
 #define HIPSTERN_H
 
 #include <stddef.h>
 #include <stdint.h>
+
+#ifdef __cplusplus
+extern "C" {
+#endif
 
 /* The answer of the first two calls where there is none: no crews, or an imbalance above 500. No other input gives it. */
 #define HIPSTERN_NO_LOAD UINT64_MAX
@@ -60,5 +65,9 @@ uint32_t hipstern_link_file_cause(const uint8_t *file, size_t length);
 #define HIPSTERN_OK 0u
 #define HIPSTERN_OVER_LIMIT 3u
 #define HIPSTERN_MALFORMED 10u
+
+#ifdef __cplusplus
+}
+#endif
 
 #endif

@@ -57,8 +57,11 @@ same 'full output' 0 $status
 } 2>target/share.pipe | true
 same 'output that nobody reads' '' "$(cat target/share.pipe)"
 
-# ./run
+# ./run: the listing, and status 1 for a refusal
 same './run' "$(cat crates/share/stdout)" "$(./run)"
+status=0
+refusal=$(./run samples/bad-short.links 2>/dev/null) || status=$?
+same './run of a refused file' 'refused 10, status 1' "$refusal, status $status"
 same './run FILE' "$("$share" <samples/torus64.links)" "$(cd samples && ../run torus64.links)"
 same './run of no file' 'run: no file that can be read: no/such.links' "$(./run no/such.links 2>&1 || true)"
 same './run of a folder' 'run: no file that can be read: samples' "$(./run samples 2>&1 || true)"
