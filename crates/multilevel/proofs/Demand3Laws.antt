@@ -242,6 +242,16 @@ untouched c number early =
       takeover = λ coarser finer l m e. absurd (no-levels coarser l (m ∷ finer) e);
     }
 
+-- ---- demand 3
+
+pub demand3 : (c : Call) → Demand3 c (division c)
+unfolding division abtmMultilevelPartition
+demand3 c = split (eqb (earlyCause c) 0)
+    (λ q. let g = tested c (eqb-true (earlyCause c) 0 q) in rw q (worked c g (trace c) (solved c g)))
+    (λ q. rw q (untouched c (earlyCause c) (early-number c (eqb-false (earlyCause c) 0 q))))
+
+-- ---- refusals
+
 -- a call's refusal is its early cause, or else its trace's
 pub refused-by
     : (c : Call) (number : ℕ)
@@ -254,11 +264,3 @@ refused-by c number e = split (eqb (earlyCause c) 0)
     let stats = statsOf (siteRows c) (c .ranks) (keptSteps c) t in
     inr (eqb-true (earlyCause c) 0 q, refused-of (eqb (t .refusal) 0) (t .owners) stats (t .refusal) number (rw q at e) .1))
     (λ q. let z : refused (earlyCause c) ≡ refused number = rw q at e in inl (cc))
-
--- ---- demand 3
-
-pub demand3 : (c : Call) → Demand3 c (division c)
-unfolding division abtmMultilevelPartition
-demand3 c = split (eqb (earlyCause c) 0)
-    (λ q. let g = tested c (eqb-true (earlyCause c) 0 q) in rw q (worked c g (trace c) (solved c g)))
-    (λ q. rw q (untouched c (earlyCause c) (early-number c (eqb-false (earlyCause c) 0 q))))
