@@ -327,6 +327,19 @@ module _ (b : Balance) where
     swaps-are true l er ew eo = rw (er, ew, ← eo)
     swaps-are false l er ew eo = refl
 
+  -- the level that a refinement adds: it has rule 6's moves from its start, and then rule 7's swaps
+  module _ (passes swapping : ℕ) (rows : List (List ℕ)) (ws group : List ℕ) (t : Trace) where
+    abbrev made-level : Level
+    made-level =
+        let m = refineByCut b rows ws passes (t .owners) in
+        let mo = foldl after (t .owners) (m .steps) in
+        let sw = swaps rows ws swapping mo (eqb (fromOwners (b .ranks) mo) 0) in
+        record { rows = rows; weights = ws; group = group; start = t .owners; moves = m .steps; settled = m .settled; swaps = sw }
+
+    level-added : refine b passes swapping rows ws group t .levels ≡ t .levels ++ made-level ∷ []
+    unfolding refine swaps
+    level-added = refl
+
   -- it enters the level of these lists, below which lie those of `lower`
   record Enters (passes : ℕ) (rows : List (List ℕ)) (ws group : List ℕ) (cs : List Coarse) (lower : List Lists) (t : Trace) : Type 0 where
     grows : t .growth ≡ growthOn b rows ws cs
@@ -353,7 +366,7 @@ module _ (b : Balance) where
         let mo = foldl after (t .owners) (m .steps) in
         let x = eqb (fromOwners (b .ranks) mo) 0 in
         let sw = swaps rows ws swapping mo x in
-        let l : Level = record { rows = rows; weights = ws; group = group; start = t .owners; moves = m .steps; settled = m .settled; swaps = sw } in
+        let l = made-level passes swapping rows ws group t in
         let j = i .joins l refl refl in
         let made = moves-made b rows ws passes (t .owners) in
         let along = swaps-along rows ws swapping mo x in
@@ -375,7 +388,7 @@ module _ (b : Balance) where
           done = λ e. record {
             coarser = t .levels;
             last = l;
-            levels-are = refl;
+            levels-are = level-added passes swapping rows ws group t;
             whole = whole;
             rows-are = refl;
             owners-are = sym (foldl-append after (m .steps) sw (t .owners));
