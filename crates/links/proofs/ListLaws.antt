@@ -4,13 +4,14 @@ use mathlib.Core.Path.{_≡_, refl, sym, ap, _∙_, subst}
 use mathlib.Core.Bool.{Bool, true, false, not, _&&_, _||_, cond, true≢false, false≢true}
 use mathlib.Core.List.{List, [], _∷_, _++_, map, nil≢cons, head-eq-of-cons-eq, tail-eq-of-cons-eq}
 use mathlib.Core.Option.{Option, none, some}
+use mathlib.Core.Logic.{_⊎_, inl, inr, ⊎-elim}
 use native.Mathlib.Numerals.{add-one}
 use native.Mathlib.Omega.{arith}
 use lib.ListN.{length, getD, set, take, drop, replicate}
 use lib.Seq.{take-suc, drop-cons, split-at}
-use lib.Dec.{eqb}
-use borrow.Author.Tests.{eq-eqb, ne-eqb, eqb-true, eqb-false}
-use Rattle.links.specs.Lists.{All, filter, any, all, foldl, best, bestFrom, insert, sortBy, range, sum, concatMap, elem}
+use lib.Dec.{eqb, ltb}
+use borrow.Author.Tests.{eq-eqb, ne-eqb, eqb-true, eqb-false, lt-ltb, le-ltb, ltb-true, ltb-false}
+use Rattle.links.specs.Lists.{All, above, filter, any, all, foldl, best, bestFrom, insert, sortBy, range, sum, concatMap, elem}
 
 -- by cases on a test, with the equation at hand
 pub split {ℓ} : {A : Type ℓ} (b : Bool) → (b ≡ true → A) → (b ≡ false → A) → A
@@ -51,6 +52,63 @@ pub iff-eq : (a b : Bool) → (a ≡ true → b ≡ true) → (b ≡ true → a 
 iff-eq true b f g = sym (f refl)
 iff-eq false true f g = g refl
 iff-eq false false f g = refl
+
+-- ---- one key of an order, and the next
+
+-- what the test `above` stands for
+abbrev pub Above : ℕ → ℕ → Type 0 → Type 0
+Above a b N = (b < a) ⊎ ((a ≡ b) × N)
+
+pub is-above : (a b : ℕ) (n : Bool) → above a b n ≡ true → Above a b (n ≡ true)
+is-above a b n e = split (ltb b a)
+    (λ p. inl (ltb-true b a p))
+    (λ p. split (eqb a b)
+    (λ r. inr (eqb-true a b r, rw (p, r) at e))
+    (λ r. absurd (true≢false (sym (rw (p, r) at e)))))
+
+pub not-above : (a b : ℕ) (n : Bool) → above a b n ≡ false → Above b a (n ≡ false)
+not-above a b n e = split (ltb b a)
+    (λ p. absurd (true≢false (rw p at e)))
+    (λ p.
+    let q = ltb-false b a p in
+    split (eqb a b)
+    (λ r. inr (sym (eqb-true a b r), rw (p, r) at e))
+    (λ r. let d = eqb-false a b r in inl (omega arith)))
+
+pub above-next : {P Q : Type 0} (a b : ℕ) → (P → Q) → Above a b P → Above a b Q
+above-next a b f x = ⊎-elim (λ p. inl p) (λ p. inr (p .0, f (p .1))) x
+
+pub above-trans : {P Q R : Type 0} (a b c : ℕ) → (P → Q → R) → Above a b P → Above b c Q → Above a c R
+above-trans a b c f x y =
+    ⊎-elim
+    (λ p. ⊎-elim (λ q. inl (omega arith)) (λ q. inl (omega arith)) y)
+    (λ p. ⊎-elim (λ q. inl (omega arith)) (λ q. inr (omega arith, f (p .1) (q .1))) y)
+    x
+
+pub above-once : {P Q : Type 0} (a b : ℕ) → (P → Q → ⊥) → Above a b P → Above b a Q → ⊥
+above-once a b f x y =
+    ⊎-elim
+    (λ p. ⊎-elim (λ q. omega arith) (λ q. omega arith) y)
+    (λ p. ⊎-elim (λ q. omega arith) (λ q. f (p .1) (q .1)) y)
+    x
+
+pub above-yes : (a b : ℕ) (n : Bool) → b < a → above a b n ≡ true
+above-yes a b n h = rw (lt-ltb b a h)
+
+pub above-same : (a b : ℕ) (n : Bool) → a ≡ b → above a b n ≡ n
+above-same a b n h = rw (le-ltb b a (omega arith), eq-eqb a b h)
+
+pub above-no : (a b : ℕ) (n : Bool) → a < b → above a b n ≡ false
+above-no a b n h = rw (le-ltb b a (omega arith), ne-eqb a b (λ e. omega arith))
+
+pub above-last : (a b : ℕ) → above a b false ≡ ltb b a
+above-last a b = split (eqb a b) (λ p. rw p (or-false (ltb b a))) (λ p. rw p (or-false (ltb b a)))
+  where
+    or-false : (x : Bool) → (x || false) ≡ x
+    or-false true = refl
+    or-false false = refl
+
+-- ---- counts
 
 -- 1 where a test passes
 abbrev pub tally : Bool → ℕ
