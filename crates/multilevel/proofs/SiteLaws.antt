@@ -1,4 +1,4 @@
--- The sites by hand and the causes before the work come out as 01 says: by computation. Assumes nothing.
+-- The sites by hand and the causes before the work come out as 01 and 02 say: by computation. Assumes nothing.
 use mathlib.Core.Path.{_≡_, refl}
 use mathlib.Core.List.{map}
 use Rattle.links.specs.Loads.{share, loadCap, minimumLoad, balance}

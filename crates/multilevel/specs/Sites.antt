@@ -1,5 +1,5 @@
--- The sites by hand of 01, and the causes that come before the work, as two tables of claims. proofs/SiteLaws.antt proves each table by computation.
--- Assumes nothing.
+-- The sites by hand of 01, one for a request of 02, and the causes that come before the work, as two tables of claims. proofs/SiteLaws.antt proves
+-- each table by computation. Assumes nothing.
 use Prim.Native.Nat.{ℕ, _+_}
 use mathlib.Core.Bool.{_&&_, _||_}
 use mathlib.Core.List.{List, [], _∷_, map}
@@ -124,7 +124,17 @@ alone = record { n = 4; links = [] }
 abbrev pub crossed : Site
 crossed = record { n = 4; links = (0, 2) ∷ (1, 3) ∷ [] }
 
--- every case of the list, starred or not
+-- two crews "offer a move the same gain", and the one with "the smaller load now" is not the lower
+abbrev pub eight : Site
+eight =
+    record {
+      n = 8;
+      links =
+          (0, 1) ∷ (0, 2) ∷ (0, 5) ∷ (0, 6) ∷ (0, 7) ∷ (1, 3) ∷ (1, 4) ∷ (1, 5) ∷ (1, 7) ∷ (2, 3) ∷ (2, 4) ∷ (2, 5) ∷ (2, 7) ∷ (3, 5) ∷ (3, 6) ∷ (4, 6) ∷ (4, 7)
+          ∷ (5, 7) ∷ [];
+    }
+
+-- every case of the list, starred or not; then the one of 02
 unfoldable pub byHand : List Claim
 byHand =
     ends (site P4 2 (12, 64, 30, 2)) (divided (0 ∷ 0 ∷ 1 ∷ 1 ∷ []) (stats 0 4 0 0 0 0 2 2))
@@ -140,6 +150,7 @@ byHand =
     ∷ ends (site threePairs 4 (12, 1, 334, 2)) (refused 7)
     ∷ ends (site alone 2 (12, 1, 30, 2)) (divided (0 ∷ 1 ∷ 0 ∷ 1 ∷ []) (stats 0 4 0 0 2 0 0 0))
     ∷ swaps crossed 2 30 2 (0 ∷ 0 ∷ 1 ∷ 1 ∷ []) 1 (1 ∷ 0 ∷ 1 ∷ 0 ∷ [])
+    ∷ ends (site eight 3 (1, 2, 500, 3)) (divided (1 ∷ 1 ∷ 2 ∷ 2 ∷ 1 ∷ 2 ∷ 0 ∷ 1 ∷ []) (stats 1 4 4 0 0 3 20 12))
     ∷ []
 
 -- ---- causes 1 to 5, each on a call for which later causes hold too

@@ -1,29 +1,31 @@
 -- What a vertex's turn does in the work slice: the best offer, the loads after a move, and the step that was made. Assumes nothing.
 use Prim.Native.Nat.{ℕ, _+_, _-_, _≤_, _<_, _^_, _*_}
-use mathlib.Core.Path.{_≡_, sym, ap, _∙_}
+use mathlib.Core.Path.{_≡_, refl, sym, ap, _∙_}
 use mathlib.Core.Bool.{Bool, true, false, cond}
-use mathlib.Core.List.{List, [], _∷_, _++_}
+use mathlib.Core.List.{List, [], _∷_, _++_, map, map-append}
 use mathlib.Core.Option.{Option, none, some}
+use native.Mathlib.Numerals.{add-one}
 use native.Mathlib.Omega.{arith}
 use lib.ListN.{length, set, length-set}
 use lib.Seq.{getD-set-same, getD-set-other, ext-getD}
 use lib.Dec.{leb, ltb, eqb}
 use borrow.Author.Tests.{ne-eqb, eqb-true, eqb-false, ltb-true, ltb-false, le-leb, leb-true}
-use Rattle.links.specs.Lists.{at, All, any, foldl}
+use Rattle.links.specs.Lists.{at, All, any, foldl, range}
 use Rattle.links.specs.Parts.{part, Kept}
 use Rattle.links.specs.Graph.{row, linksTo, load}
-use Rattle.links.proofs.ListLaws.{split, iff-eq, all-to}
+use Rattle.links.proofs.ListLaws.{split, iff-eq, all-to, all-range}
+use Rattle.links.proofs.RangeLaws.{range-snoc}
 use Rattle.links.proofs.PartLaws.{kept-set, kept-refl, kept-wide, part-set-in}
 use Rattle.stages.specs.Level.{offsetsAt, neighborsAt, rowsAt, weightsAt, ownersAt, Ready, balanceIn}
 use Rattle.stages.specs.Moves.{Step, after, mayLeave, target, destination, movePass}
-use Rattle.stages.specs.MovesCode.{Clear, Roomed, Tallied, Weighed, Moving, Shifted, Stepped, tempts, tempting, offerOf, betterOffer, offered}
+use Rattle.stages.specs.MovesCode.{Clear, Roomed, Tallied, Weighed, Moving, Shifted, Stepped, tempts, tempting, noOffer, offerOf, betterOffer, bestRank, offered}
 use Rattle.stages.specs.declared.level.HierarchyLevel.{HierarchyLevel}
 use Rattle.stages.specs.declared.level.Limits.{Limits}
 use Rattle.stages.specs.declared.moves.Offer.{Offer}
 use Rattle.stages.proofs.StepLaws.{foldl-append}
 use Rattle.stages.proofs.LoadSetLaws.{load-set, load-sum, load-holds}
 use Rattle.stages.proofs.TallyLaws.{part-snoc, any-cons, any-nothing}
-use Rattle.stages.proofs.TargetLaws.{noOffer, offerAt, bestOffer, target-found, target-rank, untempted}
+use Rattle.stages.proofs.TargetLaws.{offerAt, bestOffer, target-by-row, target-by-ranks, target-rank, untempted}
 use Rattle.stages.proofs.LevelLaws.{length-neighbors, length-weights, length-owners, all-vertices, row-part, row-ends, rows-kept, weights-kept, owners-kept, ready-kept, ready-by, beneath}
 
 -- the tallies stand behind the loads
@@ -80,7 +82,29 @@ module _ {w : List ℕ} {l : HierarchyLevel} {scratch : ℕ} (limits : Limits) (
 -- the best offer of the owners of v's neighbors as far as entry i
 abbrev pub bestTo : List ℕ → HierarchyLevel → Limits → ℕ → ℕ → Offer
 bestTo w l limits v i =
-    bestOffer (balanceIn limits) (rowsAt w l) (weightsAt w l) (ownersAt w l) v (part (neighborsAt w l) (at (offsetsAt w l) v) i)
+    bestOffer (balanceIn limits) (rowsAt w l) (weightsAt w l) (ownersAt w l) v (map (at (ownersAt w l)) (part (neighborsAt w l) (at (offsetsAt w l) v) i))
+
+-- one rank more
+pub rank-turn
+    : (w : List ℕ) (scratch : ℕ) (limits : Limits) (weight home r : ℕ) (best o best′ : Offer)
+    → best ≡ bestRank w scratch limits weight home r
+    → o ≡ offerOf (limits .cap) weight (at w (scratch + r)) (at w (scratch + limits .ranks + r)) home r
+    → best′ ≡ betterOffer best o
+    → best′ ≡ bestRank w scratch limits weight home (r + 1)
+rank-turn w scratch limits weight home r best o best′ f g k =
+    let step : Offer → ℕ → Offer = λ x s. betterOffer x (offerOf (limits .cap) weight (at w (scratch + s)) (at w (scratch + limits .ranks + s)) home s) in
+    let s : range 0 (r + 1) ≡ range 0 r ++ (r ∷ []) = ap (range 0) (add-one r) ∙ range-snoc 0 r r (omega arith) in
+    k ∙ rw (f, g) (sym (ap (foldl step noOffer) s ∙ foldl-append step (range 0 r) (r ∷ []) noOffer))
+
+-- two steps that agree on what is met
+foldl-in
+    : {A B : Type 0} (P : A → Type 0) (f g : B → A → B)
+    → ((y : B) (x : A) → P x → f y x ≡ g y x)
+    → (xs : List A) (y : B)
+    → All P xs
+    → foldl f y xs ≡ foldl g y xs
+foldl-in P f g e [] y a = refl
+foldl-in P f g e (x ∷ xs) y a = foldl-in P f g e xs (f y x) (a .1) ∙ ap (λ (z : _). foldl g z xs) (e y x (a .0))
 
 pub best-start : (w : List ℕ) (l : HierarchyLevel) (limits : Limits) (v : ℕ) → bestTo w l limits v (at (offsetsAt w l) v) ≡ noOffer
 best-start w l limits v = let e : at (offsetsAt w l) v - at (offsetsAt w l) v ≡ 0 = omega arith in rw e
@@ -125,15 +149,31 @@ module _ {w : List ℕ} {l : HierarchyLevel} {scratch : ℕ} (limits : Limits) (
         → best′ ≡ betterOffer best o
         → best′ ≡ bestTo w l limits v (i + 1)
     best-turn mine weight home i r best o best′ a b c from to d e f g k =
-        let step : Offer → ℕ → Offer = λ x u. betterOffer x (offerAt (balanceIn limits) rows ws os v (at os u)) in
-        let u : o ≡ offerAt (balanceIn limits) rows ws os v (at os (at (neighborsAt w l) i)) = g ∙ offer-is mine weight home r a b c e
-        ∙ ap (offerAt (balanceIn limits) rows ws os v) d in
-        let s : part (neighborsAt w l) (at (offsetsAt w l) v) (i + 1) ≡ part (neighborsAt w l) (at (offsetsAt w l) v)
-        i ++ (at (neighborsAt w l) i ∷ []) =
+        let step : Offer → ℕ → Offer = λ x r. betterOffer x (offerAt (balanceIn limits) rows ws os v r) in
+        let us = part (neighborsAt w l) (at (offsetsAt w l) v) i in
+        let s : part (neighborsAt w l) (at (offsetsAt w l) v) (i + 1) ≡ us ++ (at (neighborsAt w l) i ∷ []) =
         part-snoc (neighborsAt w l) (at (offsetsAt w l) v) i from (omega (arith, row-ends (q .ready) v h, length-neighbors (q .ready))) in
-        k ∙ rw (f, u)
-        (sym (ap (foldl step noOffer) s
-        ∙ foldl-append step (part (neighborsAt w l) (at (offsetsAt w l) v) i) (at (neighborsAt w l) i ∷ []) noOffer))
+        let m : map (at os) (part (neighborsAt w l) (at (offsetsAt w l) v) (i + 1)) ≡ map (at os) us ++ (r ∷ []) =
+        ap (map (at os)) s ∙ map-append (at os) us (at (neighborsAt w l) i ∷ []) ∙ ap (λ (x : ℕ). map (at os) us ++ (x ∷ [])) (sym d) in
+        k ∙ rw (f, g ∙ offer-is mine weight home r a b c e)
+        (sym (ap (foldl step noOffer) m ∙ foldl-append step (map (at os) us) (r ∷ []) noOffer))
+
+    -- all ranks met
+    pub ranks-end
+        : (mine weight home : ℕ)
+        → mine ≡ at os v
+        → weight ≡ at ws v
+        → home ≡ at w (tallies + mine)
+        → offered (bestRank w scratch limits weight home (limits .ranks)) ≡ target (balanceIn limits) rows ws os v
+    ranks-end mine weight home a b c =
+        ap offered
+        (foldl-in (λ r. r < limits .ranks)
+        (λ x r. betterOffer x (offerOf (limits .cap) weight (at w (scratch + r)) (at w (tallies + r)) home r))
+        (λ x r. betterOffer x (offerAt (balanceIn limits) rows ws os v r))
+        (λ x r d. ap (betterOffer x) (offer-is mine weight home r a b c d))
+        (range 0 (limits .ranks)) noOffer
+        (all-range (λ r. r < limits .ranks) 0 (limits .ranks) (λ r m n. omega arith)))
+        ∙ target-by-ranks (balanceIn limits) rows ws os v
 
   row-ranked : All (λ u. at os u < limits .ranks) (row rows v)
   row-ranked =
@@ -142,7 +182,7 @@ module _ {w : List ℕ} {l : HierarchyLevel} {scratch : ℕ} (limits : Limits) (
       (q .ready .lists .sound .below v (omega (arith, n)))
 
   pub best-end : offered (bestTo w l limits v (at (offsetsAt w l) (v + 1))) ≡ target (balanceIn limits) rows ws os v
-  best-end = rw (← row-part (q .ready) v h) (target-found (balanceIn limits) rows ws os v row-ranked)
+  best-end = rw (← row-part (q .ready) v h) (target-by-row (balanceIn limits) rows ws os v row-ranked)
 
 -- ---- whether it may leave
 

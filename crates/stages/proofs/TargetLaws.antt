@@ -3,7 +3,7 @@
 use Prim.Native.Nat.{ℕ, zero, suc, _+_, _-_, _<_}
 use mathlib.Core.Path.{_≡_, refl, sym, ap, _∙_, subst}
 use mathlib.Core.Logic.{_⊎_, inl, inr, ⊎-elim}
-use mathlib.Core.Bool.{Bool, true, false, _&&_, _||_, cond, true≢false, false≢true}
+use mathlib.Core.Bool.{Bool, true, false, _&&_, cond, true≢false, false≢true}
 use mathlib.Core.List.{List, [], _∷_, map}
 use mathlib.Core.Option.{Option, none, some}
 use native.Mathlib.Omega.{arith}
@@ -12,55 +12,45 @@ use borrow.Author.Tests.{eq-eqb, ne-eqb, eqb-true, eqb-false, ltb-true, ltb-fals
 use Rattle.links.specs.Lists.{at, All, above, filter, foldl, best, range, elem}
 use Rattle.links.specs.Loads.{Balance}
 use Rattle.links.specs.Graph.{row, linksTo, load}
-use Rattle.links.proofs.ListLaws.{split, and-l, and-r, all-in, all-map, any-of, to-any, elem-map}
+use Rattle.links.proofs.ListLaws.{split, and-l, and-r, Above, is-above, not-above, above-next, above-trans, above-once, above-last, all-in, all-map, all-range, any-of, to-any, elem-map, elem-range}
 use Rattle.links.proofs.BestLaws.{met, step, left, one-more, all-met}
 use Rattle.stages.specs.declared.moves.Offer.{Offer}
 use Rattle.stages.specs.Moves.{move, gain, mayJoin, preferred, target}
-use Rattle.stages.specs.MovesCode.{offerOf, betterOffer, offered, tempts, tempting}
+use Rattle.stages.specs.MovesCode.{noOffer, offerOf, outbids, betterOffer, offered, tempts, tempting}
 use Rattle.stages.proofs.TallyLaws.{links-some}
 
 nothing : {A : Type 0} (x : ℕ) → _≡_ {A = Option ℕ} none (some x) → A
 nothing x e = let z : _≡_ {A = ℕ} 0 1 = cc in absurd (omega arith)
 
-module _ (g : ℕ → ℕ) where
-  -- of two ranks with their gains: "greatest gain .., then lowest crew"
+module _ (g h : ℕ → ℕ) where
+  -- of two ranks with their gains and loads: "greatest gain", then "smaller load", then "lower crew number"
   abbrev pub Beats : ℕ → ℕ → Type 0
-  Beats a b = (g b < g a) ⊎ ((g a ≡ g b) × (a < b))
+  Beats a b = Above (g a) (g b) (Above (h b) (h a) (a < b))
 
   -- the same as a test
   abbrev pub wins : ℕ → ℕ → Bool
-  wins a b = above (g a) (g b) (ltb a b)
+  wins a b = above (g a) (g b) (above (h b) (h a) (ltb a b))
 
   wins-true : (a b : ℕ) → wins a b ≡ true → Beats a b
-  wins-true a b e = split (ltb (g b) (g a))
-      (λ p. inl (ltb-true (g b) (g a) p))
-      (λ p. split (eqb (g a) (g b))
-      (λ q. inr (eqb-true (g a) (g b) q, ltb-true a b (rw (p, q) at e)))
-      (λ q. absurd (false≢true (rw (p, q) at e))))
+  wins-true a b e =
+      above-next (g a) (g b)
+      (λ p. above-next (h b) (h a) (ltb-true a b) (is-above (h b) (h a) (ltb a b) p))
+      (is-above (g a) (g b) (above (h b) (h a) (ltb a b)) e)
 
   wins-false : (a b : ℕ) → wins a b ≡ false → (a ≡ b) ⊎ Beats b a
-  wins-false a b e = split (ltb (g b) (g a))
-      (λ p. absurd (true≢false (rw p at e)))
-      (λ p. split (eqb (g a) (g b))
-      (λ q. let d = ltb-false a b (rw (p, q) at e) in
-      split (eqb a b)
-      (λ s. inl (eqb-true a b s))
-      (λ s. let n = eqb-false a b s in inr (inr (sym (eqb-true (g a) (g b) q), omega arith))))
-      (λ q. let d = ltb-false (g b) (g a) p in let n = eqb-false (g a) (g b) q in inr (inl (omega arith))))
+  wins-false a b e = split (eqb a b)
+      (λ p. inl (eqb-true a b p))
+      (λ p.
+      let n = eqb-false a b p in
+      inr (above-next (g b) (g a)
+      (λ q. above-next (h a) (h b) (λ r. omega (arith, ltb-false a b r)) (not-above (h b) (h a) (ltb a b) q))
+      (not-above (g a) (g b) (above (h b) (h a) (ltb a b)) e)))
 
   beats-trans : (a b c : ℕ) → Beats a b → Beats b c → Beats a c
-  beats-trans a b c x y =
-      ⊎-elim
-      (λ h. ⊎-elim (λ k. inl (omega arith)) (λ k. inl (omega arith)) y)
-      (λ h. ⊎-elim (λ k. inl (omega arith)) (λ k. inr (omega arith, omega arith)) y)
-      x
+  beats-trans a b c x y = above-trans (g a) (g b) (g c) (λ p q. above-trans (h c) (h b) (h a) (λ i k. omega arith) q p) x y
 
   beats-once : (a b : ℕ) → Beats a b → Beats b a → ⊥
-  beats-once a b x y =
-      ⊎-elim
-      (λ h. ⊎-elim (λ k. omega arith) (λ k. omega arith) y)
-      (λ h. ⊎-elim (λ k. omega arith) (λ k. omega arith) y)
-      x
+  beats-once a b x y = above-once (g a) (g b) (λ p q. above-once (h b) (h a) (λ i k. omega arith) p q) x y
 
   -- what is chosen of those for which P holds
   pub record Top (P : ℕ → Type 0) (o : Option ℕ) : Type 0 where
@@ -136,7 +126,7 @@ module _ (g : ℕ → ℕ) where
             (λ w. rw w (takes r t p (wins-true x r w)))
             (λ w. rw w (keeps r t (wins-false x r w)))
 
-    -- the best of a range by gains alone, where "lowest crew" is by ranks that rise
+    -- the best of a range by gains and loads, where "the lower crew number" is by ranks that rise
     module _ (better : ℕ → ℕ → Bool) (agrees : (i j : ℕ) → i < j → ok i ≡ true → ok j ≡ true → better j i ≡ wins j i) where
       abbrev Below : ℕ → ℕ → Type 0
       Below i s = (s < i) × (ok s ≡ true)
@@ -197,13 +187,16 @@ module _ (off : ℕ → Offer) (own : (r : ℕ) → off r .rank ≡ r) (ok : ℕ
   abbrev gains : ℕ → ℕ
   gains r = off r .gain
 
+  abbrev loads : ℕ → ℕ
+  loads r = off r .load
+
   -- the best so far is none, or some rank's own offer
   abbrev Held : Offer → Type 0
   Held o = (o .gain ≡ 0) ⊎ (o ≡ off (o .rank))
 
   held-step : (o : Offer) (x : ℕ) → Held o → Held (betterOffer o (off x))
   unfolding betterOffer
-  held-step o x h = go (above (off x .gain) (o .gain) (ltb (off x .rank) (o .rank)))
+  held-step o x h = go (outbids (off x) o)
     where
       go : (b : Bool) → Held (cond b (off x) o)
       go true = inr (ap off (sym (own x)))
@@ -217,7 +210,7 @@ module _ (off : ℕ → Offer) (own : (r : ℕ) → off r .rank ≡ r) (ok : ℕ
   unfolding offered
   offered-some o h = rw (ne-eqb (o .gain) 0 (λ e. omega arith))
 
-  offered-step : (o : Offer) (x : ℕ) → Held o → offered (betterOffer o (off x)) ≡ step (wins gains) ok (offered o) x
+  offered-step : (o : Offer) (x : ℕ) → Held o → offered (betterOffer o (off x)) ≡ step (wins gains loads) ok (offered o) x
   unfolding betterOffer
   offered-step o x h = split (ltb 0 (gains x))
       (λ p.
@@ -230,14 +223,15 @@ module _ (off : ℕ → Offer) (own : (r : ℕ) → off r .rank ≡ r) (ok : ℕ
       let n = eqb-false (o .gain) 0 q in
       let same : o ≡ off (o .rank) = ⊎-elim (λ e. absurd (n e)) (λ e. e) h in
       let g : o .gain ≡ gains (o .rank) = ap (λ (z : Offer). z .gain) same in
+      let d : o .load ≡ loads (o .rank) = ap (λ (z : Offer). z .load) same in
       let theirs : offered o ≡ some (o .rank) = offered-some o (omega arith) in
-      let test : above (off x .gain) (o .gain) (ltb (off x .rank) (o .rank)) ≡ wins gains x (o .rank) = rw (own x, g) in
-      rw (theirs, y) (ap (λ (b : Bool). offered (cond b (off x) o)) test ∙ pick (wins gains x (o .rank)) mine theirs)))
+      let test : outbids (off x) o ≡ wins gains loads x (o .rank) = rw (own x, g, d) in
+      rw (theirs, y) (ap (λ (b : Bool). offered (cond b (off x) o)) test ∙ pick (wins gains loads x (o .rank)) mine theirs)))
       (λ p.
       let y : ok x ≡ false = opens x ∙ p in
       let gx : gains x ≡ 0 = (let l = ltb-false 0 (gains x) p in omega arith) in
       split (eqb (o .gain) 0)
-      (λ q. rw y (neither (above (off x .gain) (o .gain) (ltb (off x .rank) (o .rank))) gx (eqb-true (o .gain) 0 q)))
+      (λ q. rw y (neither (outbids (off x) o) gx (eqb-true (o .gain) 0 q)))
       (λ q.
       let n = eqb-false (o .gain) 0 q in
       rw (y, gx, le-ltb (o .gain) 0 (omega arith), ne-eqb 0 (o .gain) (λ e. n (sym e)))))
@@ -252,28 +246,20 @@ module _ (off : ℕ → Offer) (own : (r : ℕ) → off r .rank ≡ r) (ok : ℕ
 
   -- over a list
   pub offered-list
-      : (xs : List ℕ) (o : Offer) → Held o → offered (foldl (λ b x. betterOffer b (off x)) o xs) ≡ foldl (step (wins gains) ok) (offered o) xs
+      : (xs : List ℕ) (o : Offer) → Held o → offered (foldl (λ b x. betterOffer b (off x)) o xs) ≡ foldl (step (wins gains loads) ok) (offered o) xs
   offered-list [] o h = refl
   offered-list (x ∷ xs) o h =
       offered-list xs (betterOffer o (off x)) (held-step o x h)
-      ∙ ap (λ (c : Option ℕ). foldl (step (wins gains) ok) c xs) (offered-step o x h)
-
-foldl-map : {A B C : Type 0} (f : C → B → C) (h : A → B) (c : C) (xs : List A) → foldl (λ b x. f b (h x)) c xs ≡ foldl f c (map h xs)
-foldl-map f h c [] = refl
-foldl-map f h c (x ∷ xs) = foldl-map f h (f c (h x)) xs
-
--- the best so far before any is met
-abbrev pub noOffer : Offer
-noOffer = record { gain = 0; rank = 0 }
+      ∙ ap (λ (c : Option ℕ). foldl (step (wins gains loads) ok) c xs) (offered-step o x h)
 
 module _ (b : Balance) (rows : List (List ℕ)) (weights owners : List ℕ) (v : ℕ) where
   -- what rank r offers v
   abbrev pub offerAt : ℕ → Offer
   offerAt r = offerOf (b .cap) (at weights v) (load weights owners r) (linksTo rows owners v r) (linksTo rows owners v (at owners v)) r
 
-  -- the best of what the owners of the listed vertices offer v
+  -- the best of what the listed ranks offer v
   abbrev pub bestOffer : List ℕ → Offer
-  bestOffer us = foldl (λ o u. betterOffer o (offerAt (at owners u))) noOffer us
+  bestOffer rs = foldl (λ o r. betterOffer o (offerAt r)) noOffer rs
 
   abbrev passing : ℕ → Bool
   passing r = ltb 0 (gain rows owners (move v r)) && mayJoin b rows weights owners v r
@@ -291,15 +277,26 @@ module _ (b : Balance) (rows : List (List ℕ)) (weights owners : List ℕ) (v :
   unfolding offerOf mayJoin gain
   gain-is r p = let j = and-r (ltb 0 (gain rows owners (move v r))) (mayJoin b rows weights owners v r) p in rw j
 
-  agrees : (i j : ℕ) → i < j → passing i ≡ true → passing j ≡ true → preferred b rows weights owners v j i ≡ wins (λ r. offerAt r .gain) j i
+  load-is : (r : ℕ) → offerAt r .load ≡ load weights owners r
+  unfolding offerOf
+  load-is r = refl
+
+  agrees
+      : (i j : ℕ)
+      → i < j
+      → passing i ≡ true
+      → passing j ≡ true
+      → preferred b rows weights owners v j i ≡ wins (λ r. offerAt r .gain) (λ r. offerAt r .load) j i
   unfolding preferred
-  agrees i j h p q = rw (gain-is i p, gain-is j q, le-ltb j i (omega arith))
-      (go (ltb (gain rows owners (move v i)) (gain rows owners (move v j))) (eqb (gain rows owners (move v j)) (gain rows owners (move v i))))
-    where
-      go : (x y : Bool) → x ≡ (x || (y && false))
-      go true y = refl
-      go false true = refl
-      go false false = refl
+  agrees i j h p q =
+      rw (
+        gain-is i p,
+        gain-is j q,
+        load-is i,
+        load-is j,
+        le-ltb j i (omega arith),
+        above-last (load weights owners i) (load weights owners j),
+      )
 
   own : (r : ℕ) → offerAt r .rank ≡ r
   unfolding offerOf
@@ -316,27 +313,39 @@ module _ (b : Balance) (rows : List (List ℕ)) (weights owners : List ℕ) (v :
       let l = ltb-true 0 (gain rows owners (move v r)) (and-l (ltb 0 (gain rows owners (move v r))) (mayJoin b rows weights owners v r) p) in
       links-some (row rows v) owners r (omega arith)
 
-  pub target-found : All (λ u. at owners u < b .ranks) (row rows v) → offered (bestOffer (row rows v)) ≡ target b rows weights owners v
+  -- the target is the best of ranks among which are all that pass
+  target-among
+      : (rs : List ℕ)
+      → All (λ r. r < b .ranks) rs
+      → ((r : ℕ) → r < b .ranks → passing r ≡ true → elem r rs ≡ true)
+      → offered (bestOffer rs) ≡ target b rows weights owners v
   unfolding target
-  target-found a =
+  target-among rs low listed =
       let g : ℕ → ℕ = λ r. offerAt r .gain in
-      let rs = map (at owners) (row rows v) in
+      let h : ℕ → ℕ = λ r. offerAt r .load in
       let P : ℕ → Type 0 = λ s. (s < b .ranks) × (passing s ≡ true) in
       let nobody : ℕ → Type 0 = λ s. ⊥ in
-      ap offered (foldl-map (λ o r. betterOffer o (offerAt r)) (at owners) noOffer (row rows v))
-      ∙ offered-list offerAt own passing opens rs noOffer (inl refl)
-      ∙ top-unique g P (foldl (step (wins g) passing) (offered noOffer) rs)
+      offered-list offerAt own passing opens rs noOffer (inl refl)
+      ∙ top-unique g h P (foldl (step (wins g h) passing) (offered noOffer) rs)
       (best (preferred b rows weights owners v) (filter passing (range 0 (b .ranks))))
-      (rw start (top-list g passing rs nobody P none (top-none g nobody (λ s h. h))
-      (λ s h. absurd h)
-      (λ s e p. (all-in (λ r. r < b .ranks) rs s (all-map (λ r. r < b .ranks) (at owners) (row rows v) a) e, p))
-      (λ s q. inr (has-neighbor s (q .1), q .1))))
-      (top-best g passing (preferred b rows weights owners v) agrees (b .ranks))
+      (rw start (top-list g h passing rs nobody P none (top-none g h nobody (λ s z. z))
+      (λ s z. absurd z)
+      (λ s e p. (all-in (λ r. r < b .ranks) rs s low e, p))
+      (λ s q. inr (listed s (q .0) (q .1), q .1))))
+      (top-best g h passing (preferred b rows weights owners v) agrees (b .ranks))
+
+  pub target-by-row : All (λ u. at owners u < b .ranks) (row rows v) → offered (bestOffer (map (at owners) (row rows v))) ≡ target b rows weights owners v
+  target-by-row a = target-among (map (at owners) (row rows v)) (all-map (λ r. r < b .ranks) (at owners) (row rows v) a) (λ r h p. has-neighbor r p)
+
+  pub target-by-ranks : offered (bestOffer (range 0 (b .ranks))) ≡ target b rows weights owners v
+  target-by-ranks =
+      target-among (range 0 (b .ranks)) (all-range (λ r. r < b .ranks) 0 (b .ranks) (λ r l h. omega arith))
+      (λ r h p. elem-range r 0 (b .ranks) (omega arith) (omega arith))
 
   -- a target is a rank
   pub target-rank : (r : ℕ) → target b rows weights owners v ≡ some r → r < b .ranks
   unfolding target
-  target-rank r e = top-best (λ s. offerAt s .gain) passing (preferred b rows weights owners v) agrees (b .ranks) .passes r e .0
+  target-rank r e = top-best (λ s. offerAt s .gain) (λ s. offerAt s .load) passing (preferred b rows weights owners v) agrees (b .ranks) .passes r e .0
 
   -- one that passes tempts v: it is not v's own, which gains nothing, and owns a neighbor
   passing-tempts : (r : ℕ) → passing r ≡ true → tempts (b .cap) (at weights v) (load weights owners r) (at owners v) r ≡ true
@@ -357,7 +366,7 @@ module _ (b : Balance) (rows : List (List ℕ)) (weights owners : List ℕ) (v :
 
   target-passes : (r : ℕ) → target b rows weights owners v ≡ some r → passing r ≡ true
   unfolding target
-  target-passes r e = top-best (λ s. offerAt s .gain) passing (preferred b rows weights owners v) agrees (b .ranks) .passes r e .1
+  target-passes r e = top-best (λ s. offerAt s .gain) (λ s. offerAt s .load) passing (preferred b rows weights owners v) agrees (b .ranks) .passes r e .1
 
   -- a vertex that no rank tempts has no target
   pub untempted : tempting b rows weights owners v ≡ false → target b rows weights owners v ≡ none

@@ -5,7 +5,7 @@ use mathlib.Core.List.{List, [], _∷_, _++_}
 use mathlib.Core.Option.{Option, none}
 use lib.ListN.{set}
 use lib.Dec.{leb, ltb}
-use Rattle.links.specs.Lists.{at, filter, foldl, best, range, elem, empty, option}
+use Rattle.links.specs.Lists.{at, filter, foldl, best, range, elem, empty, option, above}
 use Rattle.links.specs.Loads.{Balance}
 use Rattle.links.specs.Graph.{row, vertices, linksTo, load}
 
@@ -55,9 +55,11 @@ module _ (b : Balance) (rows : List (List ℕ)) (weights : List ℕ) where
   unfoldable pub mayJoin : List ℕ → ℕ → ℕ → Bool
   mayJoin owners v r = leb (load weights owners r + at weights v) (b .cap)
 
-  -- r before s as v's target: "greatest gain .., then lowest crew"; the last by ranks that rise
+  -- r before s as v's target: "greatest gain"; where both offer "the same gain, the one with the smaller load now", "and only then the lower crew
+  -- number": the last by ranks that rise
   unfoldable pub preferred : List ℕ → ℕ → ℕ → ℕ → Bool
-  preferred owners v r s = ltb (gain rows owners (move v s)) (gain rows owners (move v r))
+  preferred owners v r s =
+      above (gain rows owners (move v r)) (gain rows owners (move v s)) (ltb (load weights owners r) (load weights owners s))
 
   -- "more neighbours than in its own crew, load plus weight within cap"
   unfoldable pub target : List ℕ → ℕ → Option ℕ

@@ -6,7 +6,7 @@ use mathlib.Core.List.{List}
 use mathlib.Core.Option.{Option, none, some}
 use lib.ListN.{length, set}
 use lib.Dec.{leb, ltb, eqb}
-use Rattle.links.specs.Lists.{at, any, above, foldl}
+use Rattle.links.specs.Lists.{at, any, above, foldl, range}
 use Rattle.links.specs.Loads.{Balance}
 use Rattle.links.specs.Parts.{Kept}
 use Rattle.links.specs.Graph.{row, linksTo, load}
@@ -82,11 +82,24 @@ tempting b rows weights owners v =
 
 -- what a rank with so many neighbors there offers: "neighbours there less neighbours at home", 0 unless "load plus weight within cap"
 unfoldable pub offerOf : (cap weight load there home rank : ℕ) → Offer
-offerOf cap weight load there home rank = record { gain = cond (leb (load + weight) cap) (there - home) 0; rank = rank }
+offerOf cap weight load there home rank = record { gain = cond (leb (load + weight) cap) (there - home) 0; load = load; rank = rank }
 
--- the better of two: "greatest gain .., then lowest crew"; the first if they are the same
+-- x before y: "greatest gain", then "the one with the smaller load now", "and only then the lower crew number"
+abbrev pub outbids : Offer → Offer → Bool
+outbids x y = above (x .gain) (y .gain) (above (y .load) (x .load) (ltb (x .rank) (y .rank)))
+
+-- the better of two; the first if they are the same
 unfoldable pub betterOffer : Offer → Offer → Offer
-betterOffer x y = cond (above (y .gain) (x .gain) (ltb (y .rank) (x .rank))) y x
+betterOffer x y = cond (outbids y x) y x
+
+-- the best before any is met
+abbrev pub noOffer : Offer
+noOffer = record { gain = 0; load = 0; rank = 0 }
+
+-- the best of what the ranks below n offer a vertex, by their loads in the work slice and its tallies behind them
+abbrev pub bestRank : List ℕ → (scratch : ℕ) → Limits → (weight home n : ℕ) → Offer
+bestRank w scratch limits weight home n =
+    foldl (λ o r. betterOffer o (offerOf (limits .cap) weight (at w (scratch + r)) (at w (scratch + limits .ranks + r)) home r)) noOffer (range 0 n)
 
 -- the rank that an offer stands for; a gain of 0 is no offer
 unfoldable pub offered : Offer → Option ℕ

@@ -1,6 +1,6 @@
 // Rule 6: moves.
 ghost use mathlib.Core.Path.{_≡_};
-ghost use Prim.Native.Nat.{_+_, _≤_, _<_};
+ghost use Prim.Native.Nat.{_+_, _*_, _≤_, _<_};
 ghost use mathlib.Core.List.{[], _∷_};
 ghost use lib.ListN.{length};
 ghost use lib.Dec.{leb};
@@ -10,9 +10,10 @@ ghost use Rattle.links.specs.Graph.{vertices};
 ghost use Rattle.links.specs.Owners.{AssignmentTold};
 ghost use Rattle.stages.specs.Level.{offsetsAt, neighborsAt, rowsAt, weightsAt, ownersAt, Ready, balanceIn};
 ghost use Rattle.stages.specs.Moves.{mayLeave, target, movePass};
-ghost use Rattle.stages.specs.MovesCode.{Roomed, Clear, Loaded, Tallied, Weighed, Moving, Shifted, Stepped, tempts, tempting, offerOf, betterOffer, offered, refinedNumber, movesAt, Refinable, RefinedByCut};
+ghost use Rattle.stages.specs.MovesCode.{Roomed, Clear, Loaded, Tallied, Weighed, Moving, Shifted, Stepped, tempts, tempting, offerOf, betterOffer, bestRank, offered, refinedNumber, movesAt, Refinable, RefinedByCut};
 use super::level::HierarchyLevel;
 use super::level::Limits;
+use super::order::degree_in;
 use links::Assignment;
 use links::fill_part;
 use links::from_owners;
@@ -20,9 +21,10 @@ use links::index;
 use links::store_part;
 use links::wide;
 
-// What a rank offers a vertex: the gain of the move there, 0 if the rank has no room for it.
+// What a rank offers a vertex: the gain of the move there, 0 if the rank has no room for it; and its load.
 pub struct Offer {
     pub gain: u32,
+    pub load: u32,
     pub rank: usize,
 }
 
@@ -118,6 +120,18 @@ pub fn clear(work: &mut [u32], a: usize, n: usize)
     fill_part(work, a, a + n, 0);
 }
 
+// Sets v's tallies to 0: those of its neighbors' owners, or all, whichever takes fewer stores.
+fn clear_tallies(work: &mut [u32], l: HierarchyLevel, tallies: usize, ranks: usize, v: usize)
+    requires { ⌜ Roomed (now work) l tallies ranks × (v < l .vertices) × Tallied (now work) l tallies ranks v ⌝ }
+    ensures { λ _. ⌜ Clear (now (work .exit)) tallies ranks × Kept tallies (tallies + ranks) (now (work .exit)) (now (work .entry)) ⌝ }
+{
+    if ranks < degree_in(&work[..], l, v) {
+        clear(work, tallies, ranks);
+        return;
+    }
+    untally(work, l, tallies, ranks, v);
+}
+
 // Adds up the ranks' loads. They are 0 before.
 pub fn weigh(work: &mut [u32], l: HierarchyLevel, loads: usize, ranks: usize)
     requires { ⌜ Roomed (now work) l loads ranks × Clear (now work) loads ranks ⌝ }
@@ -167,39 +181,90 @@ fn offer_of(cap: u64, weight: u32, load: u32, there: u32, home: u32, rank: usize
     ensures { λ r. ⌜ r ≡ offerOf cap weight load there home rank ⌝ }
 {
     if cap < wide(load) + wide(weight) {
-        return Offer { gain: 0, rank };
+        return Offer {
+            gain: 0,
+            load,
+            rank,
+        };
     }
     if there < home {
-        return Offer { gain: 0, rank };
+        return Offer {
+            gain: 0,
+            load,
+            rank,
+        };
     }
     Offer {
         gain: there - home,
+        load,
         rank,
     }
 }
 
-// The better of two offers: greatest gain, then lowest rank.
+// The better of two offers, the first one held so far: greatest gain, then smaller load, then lower rank.
 fn better(x: Offer, y: Offer) -> Offer
     ensures { λ r. ⌜ r ≡ betterOffer x y ⌝ }
 {
-    let held = x.gain;
+    let held_gain = x.gain;
+    let held_load = x.load;
+    let held_rank = x.rank;
     let gain = y.gain;
-    let low = x.rank;
+    let load = y.load;
     let rank = y.rank;
-    if held < gain {
+    if held_gain < gain {
         return y;
     }
-    if gain == held {
-        if rank < low {
-            return y;
-        }
+    if gain < held_gain {
         return x;
+    }
+    if load < held_load {
+        return y;
+    }
+    if held_load < load {
+        return x;
+    }
+    if rank < held_rank {
+        return y;
     }
     x
 }
 
+// The best of what all ranks offer a vertex, by their loads from scratch on and its tallies behind them.
+fn best_of_ranks(work: &[u32], scratch: usize, limits: Limits, weight: u32, home: u32) -> Offer
+    requires { ⌜ scratch + 2 * limits .ranks ≤ length (now work) ⌝ }
+    ensures { λ r. ⌜ r ≡ bestRank (now (work .entry)) scratch limits weight home (limits .ranks) ⌝ }
+{
+    let ranks = limits.ranks;
+    let tallies = scratch + ranks;
+    let mut r: usize = 0;
+    let mut best = Offer {
+        gain: 0,
+        load: 0,
+        rank: 0,
+    };
+    while r < ranks {
+        let o = offer_of(
+            limits.cap,
+            weight,
+            work[scratch + r],
+            work[tallies + r],
+            home,
+            r,
+        );
+        best = better(best, o);
+        r += 1;
+    }
+    best
+}
+
 // The best of what the owners of v's neighbors offer it.
-fn best_offer(work: &[u32], l: HierarchyLevel, scratch: usize, limits: Limits, v: usize) -> Offer
+fn best_of_neighbors(
+    work: &[u32],
+    l: HierarchyLevel,
+    scratch: usize,
+    limits: Limits,
+    v: usize,
+) -> Offer
     requires { ⌜ Weighed (now work) l scratch (limits .ranks) × (v < l .vertices) × Tallied (now work) l (scratch + limits .ranks) (limits .ranks) v ⌝ }
     ensures { λ r. ⌜ offered r ≡ target (balanceIn limits) (rowsAt (now (work .entry)) l) (weightsAt (now (work .entry)) l) (ownersAt (now (work .entry)) l) v ⌝ }
 {
@@ -209,7 +274,11 @@ fn best_offer(work: &[u32], l: HierarchyLevel, scratch: usize, limits: Limits, v
     let home = work[tallies + mine];
     let end = row_start(work, l, v + 1);
     let mut i = row_start(work, l, v);
-    let mut best = Offer { gain: 0, rank: 0 };
+    let mut best = Offer {
+        gain: 0,
+        load: 0,
+        rank: 0,
+    };
     while i < end {
         let r = owner_at(work, l, i);
         let o = offer_of(
@@ -224,6 +293,21 @@ fn best_offer(work: &[u32], l: HierarchyLevel, scratch: usize, limits: Limits, v
         i += 1;
     }
     best
+}
+
+// What is offered to v and is best: found along its row or along the ranks, whichever is shorter.
+fn best_offer(work: &[u32], l: HierarchyLevel, scratch: usize, limits: Limits, v: usize) -> Offer
+    requires { ⌜ Weighed (now work) l scratch (limits .ranks) × (v < l .vertices) × Tallied (now work) l (scratch + limits .ranks) (limits .ranks) v ⌝ }
+    ensures { λ r. ⌜ offered r ≡ target (balanceIn limits) (rowsAt (now (work .entry)) l) (weightsAt (now (work .entry)) l) (ownersAt (now (work .entry)) l) v ⌝ }
+{
+    if limits.ranks < degree_in(work, l, v) {
+        let tallies = scratch + limits.ranks;
+        let weight = weight_in(work, l, v);
+        let mine = owner_in(work, l, v);
+        let home = work[tallies + mine];
+        return best_of_ranks(work, scratch, limits, weight, home);
+    }
+    best_of_neighbors(work, l, scratch, limits, v)
 }
 
 // Whether a load less a weight is at least the floor.
@@ -253,10 +337,14 @@ fn choose(work: &mut [u32], l: HierarchyLevel, scratch: usize, limits: Limits, v
         let tallies = scratch + limits.ranks;
         tally(work, l, tallies, limits.ranks, v);
         let best = best_offer(&work[..], l, scratch, limits, v);
-        untally(work, l, tallies, limits.ranks, v);
+        clear_tallies(work, l, tallies, limits.ranks, v);
         return best;
     }
-    Offer { gain: 0, rank: 0 }
+    Offer {
+        gain: 0,
+        load: 0,
+        rank: 0,
+    }
 }
 
 // v goes over to a rank.
@@ -343,8 +431,8 @@ fn check_owners(work: &[u32], l: HierarchyLevel, ranks: usize) -> Assignment
 }
 
 // Rule 6: moves on a level's owners, then the check of the owners. It uses two numbers for each rank from scratch on.
-// Rules out: a move that is not made, or not there; a move that leaves a load below the floor or takes one above the cap; a pass after one
-// without a move; a check that is left out.
+// Rules out: a move that is not made, or not there; a move to the heavier of two ranks with the same gain; a move that leaves a load below the
+// floor or takes one above the cap; a pass after one without a move; a check that is left out.
 pub fn refine_by_cut(
     work: &mut [u32],
     l: HierarchyLevel,

@@ -1,192 +1,78 @@
--- The invariant: the best is that of the entries before i. At the end it is the target, by the laws of targets. Assumes nothing.
-use Rattle.stages.proofs.TallySliceLaws.{owner-asks, owner-in, rises}
-use Rattle.stages.proofs.MovesTurnLaws.{tallies-roomed}
-use Rattle.links.proofs.PartLaws.{kept-refl}
-use Prim.Native.Nat.{_+_, _-_, _≤_, _<_}
-use mathlib.Core.Path.{_≡_, refl, sym}
+-- Along the ranks or along the row it is the target. Assumes nothing.
+use Prim.Native.Nat.{_+_, _<_}
+use mathlib.Core.Path.{refl, ap, _∙_}
 use native.Mathlib.Omega.{arith}
 use lib.ListN.{length}
-use Rattle.links.specs.Lists.{at}
-use Rattle.stages.specs.Level.{offsetsAt}
-use Rattle.stages.proofs.MovesTurnLaws.{bestTo, best-start, best-turn, best-end, weighed-whole}
+use Rattle.stages.specs.MovesCode.{offered}
+use Rattle.stages.proofs.MovesTurnLaws.{weighed-whole, ranks-end}
 use borrow.Author.Needs.{needs}
 use Rattle.stages.proofs.moves.best_offer.Statement.{statement}
 use Rattle.stages.proofs.moves.best_offer.Tie as tie
 
-abbrev Inv-loop : tie.InvT-loop
-Inv-loop work l scratch limits v tallies weight mine home end i₀ best₀ i best =
-    (at (offsetsAt work l) v ≤ i) × (i ≤ end) × (end ≡ at (offsetsAt work l) (v + 1)) × (best ≡ bestTo work l limits v i)
-
-abbrev μ-loop : tie.MeasureT-loop
-μ-loop work l scratch limits v tallies weight mine home end i₀ best₀ i best = end - i
-
--- the ranks are ranks
-mine-in : (c : tie.After-owner-in Inv-loop μ-loop) → c .owner-in .result < c .before .before .before .before .args .limits .ranks
-mine-in c = let s = c .before .before .before .before in rw (c .owner-in .ensures) (s .pre .0 .ranked (s .args .v) (s .pre .1))
-
-within : (c : tie.After-owner-at Inv-loop μ-loop)
-    → c .owner-at .result < c .before .before .before .before .before .before .before .before .before .before .args .limits .ranks
-within c =
-    let c2 = c .before .before in
-    let s = c2 .before .before .before .before .before .before .before .before in
-    let l = c2 .loop in
-    owner-in (tallies-roomed (s .pre .0)) (s .pre .1)
-    (kept-refl (s .args .scratch + s .args .limits .ranks) (s .args .scratch + s .args .limits .ranks + s .args .limits .ranks)
-    (s .args .work .now)) (l .i) (l .inv .0) (omega (arith, c .before .loop-test .taken, l .inv .2)) (c .owner-at .result) (c .owner-at .ensures)
-
-add-tallies : tie.Need-add-tallies Inv-loop μ-loop
-add-tallies c = record { fits = omega (arith, c .before .before .pre .0 .room, c .before .before .good .0 .0) }
-
-weight-in-requires : tie.Need-weight-in-requires Inv-loop μ-loop
-weight-in-requires c κs = (weighed-whole (c .before .before .pre .0), c .before .before .pre .1)
-
-owner-in-requires : tie.Need-owner-in-requires Inv-loop μ-loop
-owner-in-requires c κs = (weighed-whole (c .before .before .before .pre .0), c .before .before .before .pre .1)
-
-add-home : tie.Need-add-home Inv-loop μ-loop
-add-home c =
-    let c4 = c .before .before .before .before in
-    let h = mine-in c in record { fits = omega (arith, c4 .pre .0 .room, c4 .good .0 .0) }
-
-mul-home : tie.Need-mul-home Inv-loop μ-loop
-mul-home c =
-    let c4 = c .before .before .before .before in
-    let h : c4 .args .scratch + c4 .args .limits .ranks + c .owner-in .result < length (c4 .args .work .now) = (let k = mine-in c in
-    omega (arith, c4 .pre .0 .room)) in
-    search needs
-
-shared-slice-read-home : tie.Need-shared-slice-read-home Inv-loop μ-loop
-shared-slice-read-home c = let h = mine-in (c .before) in omega (arith, c .before .before .before .before .before .pre .0 .room)
-
-add-row-start : tie.Need-add-row-start Inv-loop μ-loop
-add-row-start c = search needs
-
-row-start-requires : tie.Need-row-start-requires Inv-loop μ-loop
-row-start-requires c κs =
-    let c5 = c .before .before .before .before .before in
-    (weighed-whole (c5 .pre .0), omega (arith, c5 .pre .1))
-
-row-start-requires-2 : tie.Need-row-start-requires-2 Inv-loop μ-loop
-row-start-requires-2 c κs =
-    let c6 = c .before .before .before .before .before .before in
-    (weighed-whole (c6 .pre .0), omega (arith, c6 .pre .1))
-
-loop-holds : tie.Need-loop-holds Inv-loop μ-loop
-loop-holds c =
+-- v's rank is one
+mine-in : (c : tie.After-owner-in) → c .owner-in .result < c .before .before .before .before .before .before .before .args .limits .ranks
+mine-in c =
     let s = c .before .before .before .before .before .before .before in
-    let e : c .row-start2 .result ≡ at (offsetsAt (s .args .work .now) (s .args .l)) (s .args .v) = c .row-start2 .ensures in (
-      omega arith,
-      omega (arith, c .before .row-start .ensures, rises (tallies-roomed (s .pre .0)) (s .pre .1)),
-      c .before .row-start .ensures,
-      rw e (sym (best-start (s .args .work .now) (s .args .l) (s .args .limits) (s .args .v))),
-    )
+    rw (c .owner-in .ensures) (s .pre .0 .ranked (s .args .v) (s .pre .1))
 
-owner-at-requires : tie.Need-owner-at-requires Inv-loop μ-loop
-owner-at-requires c κs =
-    let s = c .before .before .before .before .before .before .before .before .before in
-    let l = c .before .loop in
-    owner-asks (tallies-roomed (s .pre .0)) (s .pre .1)
-    (kept-refl (s .args .scratch + s .args .limits .ranks) (s .args .scratch + s .args .limits .ranks + s .args .limits .ranks)
-    (s .args .work .now)) (l .i) (l .inv .0) (omega (arith, c .loop-test .taken, l .inv .2))
+degree-in-requires : tie.Need-degree-in-requires
+degree-in-requires c κs = (weighed-whole (c .before .pre .0), c .before .pre .1)
 
-add-offer-of : tie.Need-add-offer-of Inv-loop μ-loop
-add-offer-of c =
-    let c10 = c .before .before .before .before .before .before .before .before .before .before in
-    let h = within c in record { fits = omega (arith, c10 .pre .0 .room, c10 .good .0 .0) }
+add-tallies : tie.Need-add-tallies
+add-tallies c = search needs
 
-mul-offer-of : tie.Need-mul-offer-of Inv-loop μ-loop
-mul-offer-of c =
-    let c10 = c .before .before .before .before .before .before .before .before .before .before in
-    let h : c10 .args .scratch + c .owner-at .result < length (c10 .args .work .now) = (let k = within c in omega (arith, c10 .pre .0 .room)) in
+weight-in-requires : tie.Need-weight-in-requires
+weight-in-requires c κs = let s = c .before .before .before .before .before in (weighed-whole (s .pre .0), s .pre .1)
+
+owner-in-requires : tie.Need-owner-in-requires
+owner-in-requires c κs = let s = c .before .before .before .before .before .before in (weighed-whole (s .pre .0), s .pre .1)
+
+add-home : tie.Need-add-home
+add-home c =
+    let s = c .before .before .before .before .before .before .before in
+    let h = mine-in c in record { fits = omega (arith, s .pre .0 .room, s .good .0 .0) }
+
+mul-home : tie.Need-mul-home
+mul-home c =
+    let s = c .before .before .before .before .before .before .before in
+    let h : s .args .scratch + s .args .limits .ranks + c .owner-in .result < length (s .args .work .now) = (let k = mine-in c in
+    omega (arith, s .pre .0 .room)) in
     search needs
 
-shared-slice-read-offer-of : tie.Need-shared-slice-read-offer-of Inv-loop μ-loop
-shared-slice-read-offer-of c =
-    let c11 = c .before .before .before .before .before .before .before .before .before .before .before in
-    let h = within (c .before) in omega (arith, c11 .pre .0 .room)
+shared-slice-read-home : tie.Need-shared-slice-read-home
+shared-slice-read-home c =
+    let s = c .before .before .before .before .before .before .before .before in
+    let h = mine-in (c .before) in omega (arith, s .pre .0 .room)
 
-add-offer-of-2 : tie.Need-add-offer-of-2 Inv-loop μ-loop
-add-offer-of-2 c =
-    let c11 = c .before .before .before .before .before .before .before .before .before .before .before in
-    let h = within (c .before) in record { fits = omega (arith, c11 .pre .0 .room, c11 .good .0 .0) }
+best-of-ranks-requires : tie.Need-best-of-ranks-requires
+best-of-ranks-requires c κs = search needs
 
-mul-offer-of-2 : tie.Need-mul-offer-of-2 Inv-loop μ-loop
-mul-offer-of-2 c =
-    let c11 = c .before .before .before .before .before .before .before .before .before .before .before in
-    let h : c11 .args .scratch + c11 .args .limits .ranks + c .before .owner-at .result < length (c11 .args .work .now) =
-    (let k = within (c .before) in omega (arith, c11 .pre .0 .room)) in
-    search needs
-
-shared-slice-read-offer-of-2 : tie.Need-shared-slice-read-offer-of-2 Inv-loop μ-loop
-shared-slice-read-offer-of-2 c =
-    let c2 = c .before .before in
-    let c12 = c2 .before .before .before .before .before .before .before .before .before .before in
-    let h = within c2 in omega (arith, c12 .pre .0 .room)
-
-offer-of-requires : tie.Need-offer-of-requires Inv-loop μ-loop
-offer-of-requires c κs = search needs
-
-better-requires : tie.Need-better-requires Inv-loop μ-loop
-better-requires c κs = search needs
-
-add-i : tie.Need-add-i Inv-loop μ-loop
-add-i c = search needs
-
-loop-less : tie.Need-loop-less Inv-loop μ-loop
-loop-less c = search needs
-
-loop-again : tie.Need-loop-again Inv-loop μ-loop
-loop-again c =
-    let c4 = c .before .before .before .before in
-    let c5 = c4 .before in
-    let c6 = c5 .before in
-    let c10 = c6 .before .before .before .before in
-    let c11 = c10 .before in
-    let s = c11 .before .before .before in
-    let l = c6 .loop in
-    let b : l .i < at (offsetsAt (s .args .work .now) (s .args .l)) (s .args .v + 1) = omega (arith, c5 .loop-test .taken, l .inv .2) in (
-      omega (arith, l .inv .0),
-      omega (arith, c5 .loop-test .taken),
-      l .inv .2,
-      best-turn (s .args .limits) (s .pre .0) (s .args .v) (s .pre .1) (s .pre .2) (c10 .owner-in .result) (c11 .weight-in .result) _ (l .i)
-          (c4 .owner-at .result) (l .best) (c .before .offer-of .result) (c .better .result)
-          (c10 .owner-in .ensures) (c11 .weight-in .ensures) refl (l .inv .0) b (c4 .owner-at .ensures) (within c4) (l .inv .3)
-          (c .before .offer-of .ensures) (c .better .ensures),
-    )
-
-returns : tie.Need-returns Inv-loop μ-loop
+returns : tie.Need-returns
 returns c =
-    let s = c .before .before .before .before .before .before .before .before .before in
-    let l = c .before .loop in
-    let e : l .i ≡ at (offsetsAt (s .args .work .now) (s .args .l)) (s .args .v + 1) = omega (arith, c .loop-test .left, l .inv .1, l .inv .2) in
-    rw (l .inv .3, e) (best-end (s .args .limits) (s .pre .0) (s .args .v) (s .pre .1))
+    let c2 = c .before .before in
+    let s = c2 .before .before .before .before .before .before .before in
+    ap offered (c .best-of-ranks .ensures)
+    ∙ ranks-end (s .args .limits) (s .pre .0) (s .args .v) (s .pre .1) (s .pre .2) (c2 .owner-in .result) (c2 .before .weight-in .result) _
+    (c2 .owner-in .ensures) (c2 .before .weight-in .ensures) refl
+
+best-of-neighbors-requires : tie.Need-best-of-neighbors-requires
+best-of-neighbors-requires c κs = search needs
+
+returns-2 : tie.Need-returns-2
+returns-2 c = search needs
 
 pub best-offer-spec : {M : Type 1} → statement M
 best-offer-spec =
     tie.close
     (tie.spec
-    Inv-loop
-    μ-loop
+    degree-in-requires
     add-tallies
     weight-in-requires
     owner-in-requires
     add-home
     mul-home
     shared-slice-read-home
-    add-row-start
-    row-start-requires
-    row-start-requires-2
-    loop-holds
-    owner-at-requires
-    add-offer-of
-    mul-offer-of
-    shared-slice-read-offer-of
-    add-offer-of-2
-    mul-offer-of-2
-    shared-slice-read-offer-of-2
-    offer-of-requires
-    better-requires
-    add-i
-    loop-less
-    loop-again
-    returns)
+    best-of-ranks-requires
+    returns
+    best-of-neighbors-requires
+    returns-2)

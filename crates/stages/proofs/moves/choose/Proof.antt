@@ -23,8 +23,8 @@ best-offer-requires c κs =
     let t = c .before .before .before .tally .ensures in
     (weighed-kept (s .pre .0 .weighed) (t .1), s .pre .1, t .0)
 
-untally-requires : tie.Need-untally-requires
-untally-requires c κs =
+clear-tallies-requires : tie.Need-clear-tallies-requires
+clear-tallies-requires c κs =
     let s = c .before .before .before .before .before .before .before .before .before .before .before .before in
     let t = c .before .before .before .before .before .tally .ensures in
     (tallies-roomed (weighed-kept (s .pre .0 .weighed) (t .1)), s .pre .1, t .0)
@@ -36,7 +36,7 @@ returns : tie.Need-returns
 returns c =
     let s = c .before .before .before .before .before .before .before .before .before .before .before .before .before .before .before in
     let t = c .before .before .before .before .before .before .before .before .tally .ensures in
-    let u = c .before .before .untally .ensures in (
+    let u = c .before .before .clear-tallies .ensures in (
       target-kept (s .pre .0 .weighed) (t .1) (s .args .limits) (s .args .v) _ (c .before .before .before .before .best-offer .ensures),
       cleared-again (s .args .work .now) _ _ (s .args .scratch + s .args .limits .ranks) (s .args .limits .ranks) (s .pre .0 .clear) (t .1) (u .0)
           (u .1),
@@ -54,4 +54,4 @@ returns-2 c =
 pub choose-spec : {M : Type 1} → statement M
 choose-spec =
     tie.close
-    (tie.spec tempted-requires add-tallies tally-requires best-offer-requires untally-requires same-length returns same-length-2 returns-2)
+    (tie.spec tempted-requires add-tallies tally-requires best-offer-requires clear-tallies-requires same-length returns same-length-2 returns-2)
