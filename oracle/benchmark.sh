@@ -1,5 +1,5 @@
 #!/usr/bin/env bash
-# Prints how many times as fast as the unchanged Rust a division is, from one run: the table of docs/BENCHMARK.md. Words are passed on:
+# Prints how many times as fast as the oracle in force a division is, from one run: the table of docs/BENCHMARK.md. Words are passed on:
 # --times NUMBER, or names of rows. The Rust's sources are looked for as sources.sh says.
 set -eu
 cd "$(dirname "$0")/.."

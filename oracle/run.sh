@@ -1,6 +1,6 @@
 #!/usr/bin/env bash
-# Compares Hipstern with the unchanged Rust (oracle/reference), through the archives of crates bridge and bridge_stages. The Rust's sources are looked
-# for as sources.sh says. Words are passed on: --long, --seed NUMBER, --count NUMBER, for longer runs. The exit status is not 0 where an answer
+# Compares Hipstern with the Rust (oracle/reference: unchanged, and in force), through the archives of crates bridge and bridge_stages. The Rust's
+# sources are looked for as sources.sh says. Words are passed on: --long, --seed NUMBER, --count NUMBER, for longer runs. The exit status is not 0 where an answer
 # differs.
 set -eu
 cd "$(dirname "$0")/.."

@@ -1,4 +1,4 @@
-//! Asks the Rust for one division.
+//! Asks the Rust for one division: the oracle in force, with what document 02 asks.
 //!
 //!     ask [--trace] < site
 //!

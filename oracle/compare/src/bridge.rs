@@ -144,9 +144,8 @@ pub fn divide(
     work: &mut [u32],
 ) -> (u32, [u64; 8]) {
     let ((op, on), (np, nn)) = (lent!(offsets), lent!(neighbors));
-    let options = [o.max_levels, o.coarse_vertices_per_rank, o.imbalance_per_mille, o.refinement_passes];
     let mut stats = [77; 8];
     let (rp, rn, wp, wn) = (owners.as_mut_ptr(), owners.len(), work.as_mut_ptr(), work.len());
-    let number = unsafe { bridge_divide(op, on, np, nn, ranks, &options, rp, rn, wp, wn, &mut stats) };
+    let number = unsafe { bridge_divide(op, on, np, nn, ranks, &o.numbers(), rp, rn, wp, wn, &mut stats) };
     (number, stats)
 }

@@ -169,12 +169,9 @@ fn emptied(check: &mut Check, random: &mut Random, count: u64) {
 }
 
 pub fn compare(report: &mut Report, seed: u64, count: u64, long: bool) {
-    report.check("divisions of 01's sites by hand", &[0, 6, 7, 8, 9], |check| {
-        for (site, ranks, [max_levels, coarse_vertices_per_rank, imbalance_per_mille, refinement_passes], _) in
-            byhand::table()
-        {
-            let options = Options { max_levels, coarse_vertices_per_rank, imbalance_per_mille, refinement_passes };
-            compare_one(check, &mut Random::new(seed), &site, ranks, options, 0, 0);
+    report.check("divisions of the sites by hand", &[0, 6, 7, 8, 9], |check| {
+        for (site, ranks, options, _) in byhand::table() {
+            compare_one(check, &mut Random::new(seed), &site, ranks, Options::of(options), 0, 0);
         }
     });
     let (most, name) = if long { (5, "five") } else { (4, "four") };

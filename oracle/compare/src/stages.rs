@@ -1,11 +1,12 @@
-//! The five stages beside the Rust's, each by itself, on levels of any weights and owners.
+//! The five stages beside the Rust's, each by itself, on levels of any weights and owners. Moves are held against the oracle in
+//! force, the others, and moves among two ranks, against the unchanged Rust: no request has changed them.
 use crate::bridge;
 use crate::bridge_stages::{Level, Rules};
 use crate::levels::{self, MAX_TOTAL};
 use crate::report::{Check, Report};
-use reference::answers::{MAX_NEIGHBORS, MAX_RANKS, MAX_VERTICES, lists_cause};
+use reference::answers::{MAX_NEIGHBORS, MAX_RANKS, MAX_VERTICES, lists_cause, refine_by_cut};
 use reference::random::Random;
-use reference::stages;
+use reference::unchanged::stages;
 
 const PASSES: [u64; 4] = [1, 2, 10, u64::MAX];
 
@@ -77,7 +78,7 @@ fn moves(check: &mut Check, level: &Level, t: u32, passes: u64) -> u64 {
     let mut work = noise(level.need());
     let answer = level.moves(rules(level, t, passes), &mut work);
     let (rows, weights) = (level.rows(), wide(&level.weights));
-    let rust = stages::refine_by_cut(&rows, &weights, level.ranks, &level.owners, t, passes as usize);
+    let rust = refine_by_cut(&rows, &weights, level.ranks, &level.owners, t, passes as usize);
     let input = || format!("t {t}, passes {passes}, {level:?}");
     check.made(answer.1);
     check.outcomes(refined(level, answer, &work), checked(level, rust), input);

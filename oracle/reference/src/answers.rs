@@ -1,9 +1,8 @@
-//! What document 01 expects of each public call. Where 01 adds a refusal (3, 4, 5; cap and floor beyond their range), its rule
-//! stands here and comes first, in 01's order; all else is what the Rust answers.
-use crate::{
-    AbtmMultilevelOptions, Csr32Matrix, DistributedTopologyError, PartitionAssignment, abtm_multilevel_partition,
-    stages,
-};
+//! What documents 01 and 02 expect of each public call. Where 01 adds a refusal (3, 4, 5; cap and floor beyond their range), its
+//! rule stands here and comes first, in 01's order; all else is what the Rust answers: the unchanged Rust where no request of
+//! 02 can change the answer, else the oracle in force.
+use crate::unchanged::{self, stages};
+use crate::{Csr32Matrix, DistributedTopologyError, PartitionAssignment, RankId, in_force};
 
 pub const MAX_VERTICES: usize = 16_384;
 pub const MAX_NEIGHBORS: usize = 131_072;
@@ -117,19 +116,18 @@ pub struct Options {
 }
 
 impl Options {
-    /// 01's t is u64: above 2^32 it is as much above 500 as 2^32 − 1 is.
-    pub fn to_rust(self) -> AbtmMultilevelOptions {
-        AbtmMultilevelOptions {
-            max_levels: self.max_levels as usize,
-            coarse_vertices_per_rank: self.coarse_vertices_per_rank as usize,
-            imbalance_per_mille: u32::try_from(self.imbalance_per_mille).unwrap_or(u32::MAX),
-            refinement_passes: self.refinement_passes as usize,
-        }
+    /// In the order of a link file.
+    pub fn numbers(self) -> [u64; 4] {
+        [self.max_levels, self.coarse_vertices_per_rank, self.imbalance_per_mille, self.refinement_passes]
+    }
+
+    pub fn of([max_levels, coarse_vertices_per_rank, imbalance_per_mille, refinement_passes]: [u64; 4]) -> Self {
+        Options { max_levels, coarse_vertices_per_rank, imbalance_per_mille, refinement_passes }
     }
 
     /// 0, or 1.
     pub fn validate(self) -> u32 {
-        stages::validate(self.to_rust())
+        stages::validate(unchanged::options(self.numbers()))
     }
 }
 
@@ -177,23 +175,44 @@ pub fn partition_lent(
     rust_partition(offsets, neighbors, ranks, options)
 }
 
+/// Whether a request of document 02 can change a division, or the moves of a level. Request P4 cannot among two ranks: then a
+/// vertex has no more than one rank to go to.
+pub fn changed(ranks: u32) -> bool {
+    ranks > 2
+}
+
 /// What the Rust answers, its own 1 and 2 included, on lists that make a matrix.
 pub fn rust_partition(offsets: &[u32], neighbors: &[u32], ranks: u32, options: Options) -> Result<Division, u32> {
+    let oracle = if changed(ranks) { in_force::asked } else { unchanged::asked };
+    oracle_partition(oracle, offsets, neighbors, ranks, options)
+}
+
+/// A driver of multilevel.rs: unchanged, in force, or with a slip.
+pub type Asked = fn(&Csr32Matrix, RankId, [u64; 4]) -> Result<Division, DistributedTopologyError>;
+
+pub fn oracle_partition(
+    oracle: Asked,
+    offsets: &[u32],
+    neighbors: &[u32],
+    ranks: u32,
+    options: Options,
+) -> Result<Division, u32> {
     assert!(std::env::var_os("HYBIT_A6_F12_MERGE").is_none(), "HYBIT_A6_F12_MERGE must be unset");
     let n = vertex_count(offsets);
     let matrix = Csr32Matrix::new(n, n, offsets.to_vec(), neighbors.to_vec(), vec![1.0; neighbors.len()])
         .expect("lists that make a matrix");
-    let (assignment, s) =
-        abtm_multilevel_partition(&matrix, ranks, options.to_rust()).map_err(|e| refusal(&e, n, ranks))?;
-    let stats = [
-        s.levels_built,
-        s.coarsest_vertices,
-        s.matched_pairs,
-        s.singleton_aggregates,
-        s.coarse_restarts,
-        s.refinement_moves,
-        s.final_cut_nnz,
-        s.final_communication_volume,
-    ];
-    Ok((assignment.owners().to_vec(), stats.map(|x| x as u64)))
+    oracle(&matrix, ranks, options.numbers()).map_err(|e| refusal(&e, n, ranks))
+}
+
+/// The moves of one level: owners and their number, or 9.
+pub fn refine_by_cut(
+    rows: &[Vec<usize>],
+    weights: &[usize],
+    ranks: u32,
+    owners: &[u32],
+    imbalance_per_mille: u32,
+    passes: usize,
+) -> Result<(Vec<u32>, usize), u32> {
+    let stage = if changed(ranks) { in_force::stages::refine_by_cut } else { stages::refine_by_cut };
+    stage(rows, weights, ranks, owners, imbalance_per_mille, passes)
 }

@@ -1,7 +1,8 @@
-//! The Rust that Hipstern follows, unchanged: the five files are included from where HIPSTERN_RUST_SRC says (build.rs), and
-//! nothing of them is in this repository. `stand_ins` has what they take from other files, `answers` what document 01 expects
-//! of a call (its own rule where 01 adds a refusal, else the Rust's answer), `stages` the Rust's private stages, and
-//! `trace` a division by them.
+//! The Rust that Hipstern follows: the five files are included from where HIPSTERN_RUST_SRC says (build.rs), and nothing of them
+//! is in this repository but what changes.rs quotes to replace it. `unchanged` is multilevel.rs as it stands, `in_force` the
+//! same with what document 02 asks: the oracle in force. `stand_ins` has what they take from other files, `answers` what
+//! documents 01 and 02 expect of a call (their own rule where they add a refusal, else the Rust's answer), `stages` in both
+//! the Rust's private stages, and `trace` a division by them.
 
 // All the crates that the sources name are this one.
 extern crate self as hybit_core;
@@ -19,7 +20,6 @@ pub mod trace;
 
 pub use csr32::Csr32Matrix;
 pub use dual_topology::AbtmDualTopology;
-pub use multilevel::{AbtmMultilevelOptions, AbtmMultilevelStats, abtm_multilevel_partition, stages};
 pub use partition::{PartitionAssignment, partition_telemetry_assignment};
 pub use stand_ins::*;
 pub use topology::{AbtmTopology, AbtmTopologyRow};
@@ -52,8 +52,21 @@ mod partition {
 }
 
 #[allow(dead_code)]
-mod multilevel {
+pub mod unchanged {
     include!(concat!(env!("RUST_SRC"), "/crates/hybit-distributed/src/multilevel.rs"));
+    include!("asked.rs");
 
-    pub mod stages;
+    pub mod stages {
+        include!("stages.rs");
+    }
+}
+
+#[allow(dead_code)]
+pub mod in_force {
+    include!(concat!(env!("OUT_DIR"), "/in_force.rs"));
+    include!("asked.rs");
+
+    pub mod stages {
+        include!("stages.rs");
+    }
 }

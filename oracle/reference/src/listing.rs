@@ -13,9 +13,7 @@ pub fn listing(file: &[u8]) -> String {
 fn answer(file: &[u8]) -> Result<String, u32> {
     let Contents { header, site } = check(file)?;
     let [n, _, k, options @ ..] = header;
-    let [max_levels, coarse_vertices_per_rank, imbalance_per_mille, refinement_passes] = options.map(u64::from);
-    let options = Options { max_levels, coarse_vertices_per_rank, imbalance_per_mille, refinement_passes };
-    let (owners, stats) = partition(&site.offsets, &site.neighbors, k, options)?;
+    let (owners, stats) = partition(&site.offsets, &site.neighbors, k, Options::of(options.map(u64::from)))?;
     let mut text = format!("turbines {n} crews {k}\n");
     for (v, owner) in owners.iter().enumerate() {
         text += &format!("{v} {owner}\n");

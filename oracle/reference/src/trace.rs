@@ -1,7 +1,7 @@
-//! A division by the Rust's stages, called one by one in rule 8's order: what each of them made. `compare` sees to it that the
-//! end is that of the Rust's own driver.
+//! A division by the stages of the oracle in force, called one by one in rule 8's order: what each of them made. `compare` sees
+//! to it that the end is that of the Rust's own driver.
 use crate::answers::Options;
-use crate::stages::{self, Coarsened, Rows};
+use crate::in_force::stages::{self, Coarsened, Rows};
 
 #[derive(Clone, Debug)]
 pub struct Trace {

@@ -1,4 +1,4 @@
-//! Hipstern's division beside the Rust's, in one process and one run: how many times as fast it is.
+//! Hipstern's division beside that of the oracle in force, in one process and one run: how many times as fast it is.
 //!
 //!     benchmark [--times NUMBER] [WORD..]
 //!
@@ -10,9 +10,10 @@
 //! run that is not timed.
 use compare::bridge;
 use reference::answers::{Options, lent_needs};
+use reference::in_force::{self, abtm_multilevel_partition};
 use reference::random::Random;
 use reference::sites::{self, Site};
-use reference::{Csr32Matrix, abtm_multilevel_partition, forced};
+use reference::{Csr32Matrix, forced};
 use std::alloc::{GlobalAlloc, Layout, System};
 use std::sync::atomic::{AtomicBool, AtomicUsize, Ordering::Relaxed};
 use std::time::{Duration, Instant};
@@ -103,7 +104,7 @@ fn measure(row: &Row, times: u32) -> Taken {
         let (number, stats) = bridge::divide(&site.offsets, &site.neighbors, *ranks, *options, &mut owners, &mut work);
         ours = ours.min(start.elapsed());
         let start = Instant::now();
-        let answer = abtm_multilevel_partition(&matrix, *ranks, options.to_rust());
+        let answer = abtm_multilevel_partition(&matrix, *ranks, in_force::options(options.numbers()));
         rust = rust.min(start.elapsed());
         match answer {
             Ok((assignment, s)) => {
@@ -121,7 +122,8 @@ fn measure(row: &Row, times: u32) -> Taken {
             break;
         }
     }
-    let allocated = most_allocated(|| drop(abtm_multilevel_partition(&matrix, *ranks, options.to_rust())));
+    let asked = || drop(abtm_multilevel_partition(&matrix, *ranks, in_force::options(options.numbers())));
+    let allocated = most_allocated(asked);
     Taken { ours, rust, lent: 4 * (owners_need + work_need), allocated }
 }
 

@@ -1,5 +1,5 @@
-//! The Rust's private stages on rows (row v: v's neighbors, rising) and plain lists. A refusal is 01's number.
-//! Their premises are the Rust's own: symmetric rows, an owner below `ranks` for each vertex, ranks > 0.
+// The private stages of multilevel.rs on rows (row v: v's neighbors, rising) and plain lists. A refusal is 01's number. Stands beside the unchanged
+// Rust and the oracle in force. Their premises are the Rust's own: symmetric rows, an owner below `ranks` for each vertex, ranks > 0.
 use super::{AbtmMultilevelOptions, Csr32Matrix, DistributedTopologyError, PartitionAssignment, RankId};
 use crate::answers::refusal;
 
