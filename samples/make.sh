@@ -52,6 +52,8 @@ site star4-t500 4 2 12 1 500 2 "${star4[@]}"
 site pairs-t333 6 4 12 1 333 2 "${pairs[@]}"
 site pairs-t334 6 4 12 1 334 2 "${pairs[@]}"
 site lone4 4 2 12 1 30 2
+# two crews offer a move the same gain, and the lighter one is not the lower (request P4)
+site lighter8 8 3 1 2 500 3 0-1 0-2 0-5 0-6 0-7 1-3 1-4 1-5 1-7 2-3 2-4 2-5 2-7 3-5 3-6 4-6 4-7 5-7
 # every size at its limit
 site torus64 64 8 12 1 100 2 "${torus[@]}"
 

@@ -1,6 +1,6 @@
-// The slips: a name, what goes wrong, and the replacements in multilevel.rs that make it so, each of which must match once. build.rs makes a copy of
-// the Rust with each of them, and the list of requests has sites on which that copy answers otherwise than the Rust.
-pub const SLIPS: &[(&str, &str, &[(&str, &str)])] = &[
+// The slips: a name, what goes wrong, and the replacements in the oracle in force that make it so, each of which must match once. build.rs makes a
+// copy of it with each of them, and the list of requests has sites on which that copy answers otherwise.
+const SLIPS: &[(&str, &str, Replacements)] = &[
     // document 01, 'Slips the Rust invites'
     (
         "stale_gains",
@@ -111,9 +111,12 @@ pub const SLIPS: &[(&str, &str, &[(&str, &str)])] = &[
     ),
     (
         "highest_rank",
-        "of equal gains the highest rank is the target",
+        "of equal gains and loads the highest rank is the target",
         &[
-            ("let candidate = (gain, usize::MAX - target);", "let candidate = (gain, target);"),
+            (
+                "let candidate = (gain, usize::MAX - loads[target], usize::MAX - target);",
+                "let candidate = (gain, usize::MAX - loads[target], target);",
+            ),
             ("let target = usize::MAX - reverse_target;", "let target = reverse_target;"),
         ],
     ),
@@ -121,8 +124,8 @@ pub const SLIPS: &[(&str, &str, &[(&str, &str)])] = &[
         "first_target",
         "the first rank with a gain is the target, not the one of greatest gain",
         &[(
-            "let gain = links[target] - internal;\n                let candidate",
-            "let gain = 1;\n                let candidate",
+            "let candidate = (gain, usize::MAX - loads[target], usize::MAX - target);",
+            "let candidate = (1, 0, usize::MAX - target);",
         )],
     ),
     (
@@ -150,5 +153,44 @@ pub const SLIPS: &[(&str, &str, &[(&str, &str)])] = &[
         "seven_candidates",
         "seven candidates for a pair of ranks, not eight",
         &[("items.truncate(8);", "items.truncate(7);")],
+    ),
+    // request P4
+    (
+        "loads_ignored",
+        "of equal gains the lowest rank is the target, whatever the loads: the key before P4",
+        &[(
+            "let candidate = (gain, usize::MAX - loads[target], usize::MAX - target);",
+            "let candidate = (gain, 0, usize::MAX - target);",
+        )],
+    ),
+    (
+        "heavier_first",
+        "of equal gains the rank with the greater load is the target",
+        &[(
+            "let candidate = (gain, usize::MAX - loads[target], usize::MAX - target);",
+            "let candidate = (gain, loads[target], usize::MAX - target);",
+        )],
+    ),
+    (
+        "load_before_gain",
+        "the rank with the smallest load is the target, and only then the one of greatest gain",
+        &[(
+            "let candidate = (gain, usize::MAX - loads[target], usize::MAX - target);",
+            "let candidate = (usize::MAX - loads[target], gain, usize::MAX - target);",
+        )],
+    ),
+    (
+        "stale_loads",
+        "of equal gains the rank whose load was smaller at the pass's start is the target",
+        &[
+            (
+                "let mut changed = false;\n\n        for node in 0..matrix.nrows() {",
+                "let mut changed = false;\n        let stale = loads.clone();\n        for node in 0..matrix.nrows() {",
+            ),
+            (
+                "let candidate = (gain, usize::MAX - loads[target], usize::MAX - target);",
+                "let candidate = (gain, usize::MAX - stale[target], usize::MAX - target);",
+            ),
+        ],
     ),
 ];

@@ -1,5 +1,5 @@
-//! The requests of crates/replay: the samples, sites that tell each slip from the Rust, and random sites.
-use reference::answers::{Options, partition, refusal};
+//! The requests of crates/replay: the samples, sites that tell each slip from the oracle in force, and random sites.
+use reference::answers::{Asked, Options, oracle_partition, partition};
 use reference::link_file::{Contents, LIMITS, check, write as file_of};
 use reference::listing::listing;
 use reference::random::Random;
@@ -8,17 +8,18 @@ use slips::COPIES;
 use std::fmt::Write;
 use std::path::Path;
 
-/// The copies of the Rust with a slip each: build.rs makes them.
+/// The copies of the oracle in force with a slip each: build.rs makes them.
 mod slips {
-    use reference::{Csr32Matrix, DistributedTopologyError, RankId};
-
-    pub type Asked =
-        fn(&Csr32Matrix, RankId, [usize; 4]) -> Result<(Vec<RankId>, [usize; 8]), DistributedTopologyError>;
+    use reference::answers::Asked;
 
     include!(concat!(env!("OUT_DIR"), "/copies.rs"));
 }
 
-const SEED: u64 = 1;
+/// Each slip's sites and the random ones are drawn from a beginning of their own: a slip more changes no other site.
+fn drawing(name: &str) -> Random {
+    Random::new(name.bytes().fold(1, |seed: u64, byte| seed.wrapping_mul(0x0100_0000_01b3) ^ u64::from(byte)))
+}
+
 /// How many sites tell a slip.
 const TELLING: usize = 3;
 const RANDOM: usize = 300;
@@ -53,46 +54,34 @@ impl Question {
     /// What an accepted file asks.
     fn of(file: &[u8]) -> Option<Self> {
         let Contents { header, site } = check(file).ok()?;
-        let [max_levels, coarse_vertices_per_rank, imbalance_per_mille, refinement_passes] =
-            [header[3], header[4], header[5], header[6]].map(u64::from);
-        let options = Options { max_levels, coarse_vertices_per_rank, imbalance_per_mille, refinement_passes };
+        let options = Options::of([header[3], header[4], header[5], header[6]].map(u64::from));
         Some(Question { site, ranks: header[2], options })
     }
 
     fn file(&self) -> Vec<u8> {
-        let o = self.options;
-        let options =
-            [o.max_levels, o.coarse_vertices_per_rank, o.imbalance_per_mille, o.refinement_passes].map(|x| x as u32);
         let mut header = [self.site.vertices() as u32, 0, self.ranks, 0, 0, 0, 0];
-        header[3..].copy_from_slice(&options);
+        header[3..].copy_from_slice(&self.options.numbers().map(|x| x as u32));
         let links: Vec<_> = self.site.links().iter().map(|&(a, b)| (a as u32, b as u32)).collect();
         file_of(header, &links)
     }
 
-    /// Whether a copy of the Rust answers otherwise than the Rust.
-    fn tells(&self, copy: slips::Asked) -> bool {
-        let (n, m) = (self.site.vertices(), self.site.neighbors.len());
-        let rust = partition(&self.site.offsets, &self.site.neighbors, self.ranks, self.options);
-        let matrix =
-            reference::Csr32Matrix::new(n, n, self.site.offsets.clone(), self.site.neighbors.clone(), vec![1.0; m]);
-        let o = self.options;
-        let options =
-            [o.max_levels, o.coarse_vertices_per_rank, o.imbalance_per_mille, o.refinement_passes].map(|x| x as usize);
-        let slip = copy(&matrix.expect("sound lists"), self.ranks, options)
-            .map(|(owners, stats)| (owners, stats.map(|x| x as u64)))
-            .map_err(|e| refusal(&e, n, self.ranks));
-        rust != slip
+    /// Whether a copy with a slip answers otherwise than it should.
+    fn tells(&self, copy: Asked) -> bool {
+        let Question { site, ranks, options } = self;
+        let slip = oracle_partition(copy, &site.offsets, &site.neighbors, *ranks, *options);
+        slip != partition(&site.offsets, &site.neighbors, *ranks, *options)
     }
 }
 
 /// The first questions that tell the slip: small sites come first.
-fn telling(random: &mut Random, name: &str, copy: slips::Asked) -> Vec<Question> {
+fn telling(name: &str, copy: Asked) -> Vec<Question> {
+    let mut random = drawing(name);
     let mut found = Vec::new();
     for (size, tries) in
         [(4, 2_000), (6, 5_000), (9, 20_000), (14, 50_000), (24, 100_000), (40, 200_000), (64, 400_000)]
     {
         for _ in 0..tries {
-            let question = Question::draw(random, size);
+            let question = Question::draw(&mut random, size);
             if question.tells(copy) {
                 found.push(question);
                 if found.len() == TELLING {
@@ -122,10 +111,9 @@ pub fn answers(mut stdin: &[u8]) -> String {
 }
 
 pub fn write(samples: Vec<(String, Vec<u8>)>, out: &Path) {
-    let mut random = Random::new(SEED);
     let mut files = Vec::new();
     let mut text = String::from(
-        "# The requests of crates/replay\n\n`oracle/replay.sh` writes this page, `crates/replay/stdin` and `crates/replay/stdout`: requests by their place in the list, from 1 on, and what each is for. The answers are those of the unchanged Rust. A slip is a copy of the Rust with a mistake (`slips.rs`), and each site named for it is one on which that copy answers otherwise than the Rust.\n\n| requests | for |\n|---|---|\n",
+        "# The requests of crates/replay\n\n`oracle/replay.sh` writes this page, `crates/replay/stdin` and `crates/replay/stdout`: requests by their place in the list, from 1 on, and what each is for. The answers are those of the oracle in force: the Rust with what document 02 asks (`reference/changes.rs`), and unchanged where no request can change the answer. A slip is a copy of it with a mistake (`slips.rs`), and each site named for it is one on which that copy answers otherwise.\n\n| requests | for |\n|---|---|\n",
     );
     for (name, file) in samples {
         files.push(file);
@@ -133,13 +121,14 @@ pub fn write(samples: Vec<(String, Vec<u8>)>, out: &Path) {
     }
     for &(name, what, copy) in COPIES {
         let from = files.len() + 1;
-        let questions = telling(&mut random, name, copy);
+        let questions = telling(name, copy);
         files.extend(questions.iter().map(Question::file));
         let sizes: Vec<_> = questions.iter().map(|q| format!("n {} k {}", q.site.vertices(), q.ranks)).collect();
         writeln!(text, "| {from} to {} | slip `{name}`: {what} ({}) |", files.len(), sizes.join(", "))
             .expect("a string");
     }
     let from = files.len() + 1;
+    let mut random = drawing("random sites");
     for i in 0..RANDOM {
         files.push(Question::draw(&mut random, if i % 10 == 0 { 64 } else { 20 }).file());
     }
