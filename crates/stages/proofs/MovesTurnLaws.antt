@@ -18,7 +18,7 @@ use Rattle.links.proofs.RangeLaws.{range-snoc}
 use Rattle.links.proofs.PartLaws.{kept-set, kept-refl, kept-wide, part-set-in}
 use Rattle.stages.specs.Level.{offsetsAt, neighborsAt, rowsAt, weightsAt, ownersAt, Ready, balanceIn}
 use Rattle.stages.specs.Moves.{Step, after, mayLeave, target, destination, movePass}
-use Rattle.stages.specs.MovesCode.{Clear, Roomed, Tallied, Weighed, Moving, Shifted, Stepped, tempts, tempting, noOffer, offerOf, betterOffer, bestRank, offered}
+use Rattle.stages.specs.MovesCode.{Clear, Roomed, Tallied, Weighed, Moving, Shifted, Stepped, tempts, tempting, noOffer, rankOffer, betterOffer, bestRank, offered}
 use Rattle.stages.specs.declared.level.HierarchyLevel.{HierarchyLevel}
 use Rattle.stages.specs.declared.level.Limits.{Limits}
 use Rattle.stages.specs.declared.moves.Offer.{Offer}
@@ -88,11 +88,11 @@ bestTo w l limits v i =
 pub rank-turn
     : (w : List ℕ) (scratch : ℕ) (limits : Limits) (weight home r : ℕ) (best o best′ : Offer)
     → best ≡ bestRank w scratch limits weight home r
-    → o ≡ offerOf (limits .cap) weight (at w (scratch + r)) (at w (scratch + limits .ranks + r)) home r
+    → o ≡ rankOffer w scratch limits weight home r
     → best′ ≡ betterOffer best o
     → best′ ≡ bestRank w scratch limits weight home (r + 1)
 rank-turn w scratch limits weight home r best o best′ f g k =
-    let step : Offer → ℕ → Offer = λ x s. betterOffer x (offerOf (limits .cap) weight (at w (scratch + s)) (at w (scratch + limits .ranks + s)) home s) in
+    let step : Offer → ℕ → Offer = λ x s. betterOffer x (rankOffer w scratch limits weight home s) in
     let s : range 0 (r + 1) ≡ range 0 r ++ (r ∷ []) = ap (range 0) (add-one r) ∙ range-snoc 0 r r (omega arith) in
     k ∙ rw (f, g) (sym (ap (foldl step noOffer) s ∙ foldl-append step (range 0 r) (r ∷ []) noOffer))
 
@@ -129,7 +129,7 @@ module _ {w : List ℕ} {l : HierarchyLevel} {scratch : ℕ} (limits : Limits) (
         → weight ≡ at ws v
         → home ≡ at w (tallies + mine)
         → r < limits .ranks
-        → offerOf (limits .cap) weight (at w (scratch + r)) (at w (tallies + r)) home r ≡ offerAt (balanceIn limits) rows ws os v r
+        → rankOffer w scratch limits weight home r ≡ offerAt (balanceIn limits) rows ws os v r
     offer-is mine weight home r a b c d =
         let e : home ≡ linksTo rows os v (at os v) = c ∙ ap (λ (x : ℕ). at w (tallies + x)) a ∙ t (at os v) (q .ranked v h) in
         rw (b, e, q .loaded r d, t r d)
@@ -145,7 +145,7 @@ module _ {w : List ℕ} {l : HierarchyLevel} {scratch : ℕ} (limits : Limits) (
         → r ≡ at os (at (neighborsAt w l) i)
         → r < limits .ranks
         → best ≡ bestTo w l limits v i
-        → o ≡ offerOf (limits .cap) weight (at w (scratch + r)) (at w (tallies + r)) home r
+        → o ≡ rankOffer w scratch limits weight home r
         → best′ ≡ betterOffer best o
         → best′ ≡ bestTo w l limits v (i + 1)
     best-turn mine weight home i r best o best′ a b c from to d e f g k =
@@ -168,7 +168,7 @@ module _ {w : List ℕ} {l : HierarchyLevel} {scratch : ℕ} (limits : Limits) (
     ranks-end mine weight home a b c =
         ap offered
         (foldl-in (λ r. r < limits .ranks)
-        (λ x r. betterOffer x (offerOf (limits .cap) weight (at w (scratch + r)) (at w (tallies + r)) home r))
+        (λ x r. betterOffer x (rankOffer w scratch limits weight home r))
         (λ x r. betterOffer x (offerAt (balanceIn limits) rows ws os v r))
         (λ x r d. ap (betterOffer x) (offer-is mine weight home r a b c d))
         (range 0 (limits .ranks)) noOffer

@@ -84,6 +84,11 @@ tempting b rows weights owners v =
 unfoldable pub offerOf : (cap weight load there home rank : ℕ) → Offer
 offerOf cap weight load there home rank = record { gain = cond (leb (load + weight) cap) (there - home) 0; load = load; rank = rank }
 
+-- what a rank offers a vertex, by its load in the work slice and the vertex's tally behind the loads
+abbrev pub rankOffer : List ℕ → (scratch : ℕ) → Limits → (weight home rank : ℕ) → Offer
+rankOffer w scratch limits weight home rank =
+    offerOf (limits .cap) weight (at w (scratch + rank)) (at w (scratch + limits .ranks + rank)) home rank
+
 -- x before y: "greatest gain", then "the one with the smaller load now", "and only then the lower crew number"
 abbrev pub outbids : Offer → Offer → Bool
 outbids x y = above (x .gain) (y .gain) (above (y .load) (x .load) (ltb (x .rank) (y .rank)))
@@ -96,10 +101,9 @@ betterOffer x y = cond (outbids y x) y x
 abbrev pub noOffer : Offer
 noOffer = record { gain = 0; load = 0; rank = 0 }
 
--- the best of what the ranks below n offer a vertex, by their loads in the work slice and its tallies behind them
+-- the best of what the ranks below n offer
 abbrev pub bestRank : List ℕ → (scratch : ℕ) → Limits → (weight home n : ℕ) → Offer
-bestRank w scratch limits weight home n =
-    foldl (λ o r. betterOffer o (offerOf (limits .cap) weight (at w (scratch + r)) (at w (scratch + limits .ranks + r)) home r)) noOffer (range 0 n)
+bestRank w scratch limits weight home n = foldl (λ o r. betterOffer o (rankOffer w scratch limits weight home r)) noOffer (range 0 n)
 
 -- the rank that an offer stands for; a gain of 0 is no offer
 unfoldable pub offered : Offer → Option ℕ

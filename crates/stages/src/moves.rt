@@ -10,7 +10,7 @@ ghost use Rattle.links.specs.Graph.{vertices};
 ghost use Rattle.links.specs.Owners.{AssignmentTold};
 ghost use Rattle.stages.specs.Level.{offsetsAt, neighborsAt, rowsAt, weightsAt, ownersAt, Ready, balanceIn};
 ghost use Rattle.stages.specs.Moves.{mayLeave, target, movePass};
-ghost use Rattle.stages.specs.MovesCode.{Roomed, Clear, Loaded, Tallied, Weighed, Moving, Shifted, Stepped, tempts, tempting, offerOf, betterOffer, bestRank, offered, refinedNumber, movesAt, Refinable, RefinedByCut};
+ghost use Rattle.stages.specs.MovesCode.{Roomed, Clear, Loaded, Tallied, Weighed, Moving, Shifted, Stepped, tempts, tempting, offerOf, rankOffer, betterOffer, bestRank, offered, refinedNumber, movesAt, Refinable, RefinedByCut};
 use super::level::HierarchyLevel;
 use super::level::Limits;
 use super::order::degree_in;
@@ -201,6 +201,29 @@ fn offer_of(cap: u64, weight: u32, load: u32, there: u32, home: u32, rank: usize
     }
 }
 
+// What a rank offers by its load from scratch on and the tally behind the loads.
+fn offer_at(
+    work: &[u32],
+    scratch: usize,
+    limits: Limits,
+    weight: u32,
+    home: u32,
+    rank: usize,
+) -> Offer
+    requires { ⌜ (scratch + 2 * limits .ranks ≤ length (now work)) × (rank < limits .ranks) ⌝ }
+    ensures { λ r. ⌜ r ≡ rankOffer (now (work .entry)) scratch limits weight home rank ⌝ }
+{
+    let tallies = scratch + limits.ranks;
+    offer_of(
+        limits.cap,
+        weight,
+        work[scratch + rank],
+        work[tallies + rank],
+        home,
+        rank,
+    )
+}
+
 // The better of two offers, the first one held so far: greatest gain, then smaller load, then lower rank.
 fn better(x: Offer, y: Offer) -> Offer
     ensures { λ r. ⌜ r ≡ betterOffer x y ⌝ }
@@ -235,7 +258,6 @@ fn best_of_ranks(work: &[u32], scratch: usize, limits: Limits, weight: u32, home
     ensures { λ r. ⌜ r ≡ bestRank (now (work .entry)) scratch limits weight home (limits .ranks) ⌝ }
 {
     let ranks = limits.ranks;
-    let tallies = scratch + ranks;
     let mut r: usize = 0;
     let mut best = Offer {
         gain: 0,
@@ -243,15 +265,7 @@ fn best_of_ranks(work: &[u32], scratch: usize, limits: Limits, weight: u32, home
         rank: 0,
     };
     while r < ranks {
-        let o = offer_of(
-            limits.cap,
-            weight,
-            work[scratch + r],
-            work[tallies + r],
-            home,
-            r,
-        );
-        best = better(best, o);
+        best = better(best, offer_at(work, scratch, limits, weight, home, r));
         r += 1;
     }
     best
@@ -281,15 +295,7 @@ fn best_of_neighbors(
     };
     while i < end {
         let r = owner_at(work, l, i);
-        let o = offer_of(
-            limits.cap,
-            weight,
-            work[scratch + r],
-            work[tallies + r],
-            home,
-            r,
-        );
-        best = better(best, o);
+        best = better(best, offer_at(work, scratch, limits, weight, home, r));
         i += 1;
     }
     best

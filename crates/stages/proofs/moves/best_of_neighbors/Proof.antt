@@ -89,42 +89,8 @@ owner-at-requires c κs =
     (kept-refl (s .args .scratch + s .args .limits .ranks) (s .args .scratch + s .args .limits .ranks + s .args .limits .ranks)
     (s .args .work .now)) (l .i) (l .inv .0) (omega (arith, c .loop-test .taken, l .inv .2))
 
-add-offer-of : tie.Need-add-offer-of Inv-loop μ-loop
-add-offer-of c =
-    let c10 = c .before .before .before .before .before .before .before .before .before .before in
-    let h = within c in record { fits = omega (arith, c10 .pre .0 .room, c10 .good .0 .0) }
-
-mul-offer-of : tie.Need-mul-offer-of Inv-loop μ-loop
-mul-offer-of c =
-    let c10 = c .before .before .before .before .before .before .before .before .before .before in
-    let h : c10 .args .scratch + c .owner-at .result < length (c10 .args .work .now) = (let k = within c in omega (arith, c10 .pre .0 .room)) in
-    search needs
-
-shared-slice-read-offer-of : tie.Need-shared-slice-read-offer-of Inv-loop μ-loop
-shared-slice-read-offer-of c =
-    let c11 = c .before .before .before .before .before .before .before .before .before .before .before in
-    let h = within (c .before) in omega (arith, c11 .pre .0 .room)
-
-add-offer-of-2 : tie.Need-add-offer-of-2 Inv-loop μ-loop
-add-offer-of-2 c =
-    let c11 = c .before .before .before .before .before .before .before .before .before .before .before in
-    let h = within (c .before) in record { fits = omega (arith, c11 .pre .0 .room, c11 .good .0 .0) }
-
-mul-offer-of-2 : tie.Need-mul-offer-of-2 Inv-loop μ-loop
-mul-offer-of-2 c =
-    let c11 = c .before .before .before .before .before .before .before .before .before .before .before in
-    let h : c11 .args .scratch + c11 .args .limits .ranks + c .before .owner-at .result < length (c11 .args .work .now) =
-    (let k = within (c .before) in omega (arith, c11 .pre .0 .room)) in
-    search needs
-
-shared-slice-read-offer-of-2 : tie.Need-shared-slice-read-offer-of-2 Inv-loop μ-loop
-shared-slice-read-offer-of-2 c =
-    let c2 = c .before .before in
-    let c12 = c2 .before .before .before .before .before .before .before .before .before .before in
-    let h = within c2 in omega (arith, c12 .pre .0 .room)
-
-offer-of-requires : tie.Need-offer-of-requires Inv-loop μ-loop
-offer-of-requires c κs = search needs
+offer-at-requires : tie.Need-offer-at-requires Inv-loop μ-loop
+offer-at-requires c κs = (c .before .before .before .before .before .before .before .before .before .before .pre .0 .room, within c)
 
 better-requires : tie.Need-better-requires Inv-loop μ-loop
 better-requires c κs = search needs
@@ -137,21 +103,21 @@ loop-less c = search needs
 
 loop-again : tie.Need-loop-again Inv-loop μ-loop
 loop-again c =
-    let c4 = c .before .before .before .before in
-    let c5 = c4 .before in
-    let c6 = c5 .before in
-    let c10 = c6 .before .before .before .before in
-    let c11 = c10 .before in
-    let s = c11 .before .before .before in
-    let l = c6 .loop in
-    let b : l .i < at (offsetsAt (s .args .work .now) (s .args .l)) (s .args .v + 1) = omega (arith, c5 .loop-test .taken, l .inv .2) in (
+    let c2 = c .before .before in
+    let c3 = c2 .before in
+    let c4 = c3 .before in
+    let c8 = c4 .before .before .before .before in
+    let c9 = c8 .before in
+    let s = c9 .before .before .before in
+    let l = c4 .loop in
+    let b : l .i < at (offsetsAt (s .args .work .now) (s .args .l)) (s .args .v + 1) = omega (arith, c3 .loop-test .taken, l .inv .2) in (
       omega (arith, l .inv .0),
-      omega (arith, c5 .loop-test .taken),
+      omega (arith, c3 .loop-test .taken),
       l .inv .2,
-      best-turn (s .args .limits) (s .pre .0) (s .args .v) (s .pre .1) (s .pre .2) (c10 .owner-in .result) (c11 .weight-in .result) _ (l .i)
-          (c4 .owner-at .result) (l .best) (c .before .offer-of .result) (c .better .result)
-          (c10 .owner-in .ensures) (c11 .weight-in .ensures) refl (l .inv .0) b (c4 .owner-at .ensures) (within c4) (l .inv .3)
-          (c .before .offer-of .ensures) (c .better .ensures),
+      best-turn (s .args .limits) (s .pre .0) (s .args .v) (s .pre .1) (s .pre .2) (c8 .owner-in .result) (c9 .weight-in .result) _ (l .i)
+          (c2 .owner-at .result) (l .best) (c .before .offer-at .result) (c .better .result)
+          (c8 .owner-in .ensures) (c9 .weight-in .ensures) refl (l .inv .0) b (c2 .owner-at .ensures) (within c2) (l .inv .3)
+          (c .before .offer-at .ensures) (c .better .ensures),
     )
 
 returns : tie.Need-returns Inv-loop μ-loop
@@ -178,13 +144,7 @@ best-of-neighbors-spec =
     row-start-requires-2
     loop-holds
     owner-at-requires
-    add-offer-of
-    mul-offer-of
-    shared-slice-read-offer-of
-    add-offer-of-2
-    mul-offer-of-2
-    shared-slice-read-offer-of-2
-    offer-of-requires
+    offer-at-requires
     better-requires
     add-i
     loop-less

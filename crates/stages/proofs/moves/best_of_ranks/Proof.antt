@@ -9,37 +9,16 @@ use Rattle.stages.proofs.moves.best_of_ranks.Statement.{statement}
 use Rattle.stages.proofs.moves.best_of_ranks.Tie as tie
 
 abbrev Inv-loop : tie.InvT-loop
-Inv-loop work scratch limits weight home ranks tallies r₀ best₀ r best = (r ≤ ranks) × (best ≡ bestRank work scratch limits weight home r)
+Inv-loop work scratch limits weight home ranks r₀ best₀ r best = (r ≤ ranks) × (best ≡ bestRank work scratch limits weight home r)
 
 abbrev μ-loop : tie.MeasureT-loop
-μ-loop work scratch limits weight home ranks tallies r₀ best₀ r best = ranks - r
-
-add-tallies : tie.Need-add-tallies Inv-loop μ-loop
-add-tallies c = search needs
+μ-loop work scratch limits weight home ranks r₀ best₀ r best = ranks - r
 
 loop-holds : tie.Need-loop-holds Inv-loop μ-loop
 loop-holds c = (omega arith, refl)
 
-add-offer-of : tie.Need-add-offer-of Inv-loop μ-loop
-add-offer-of c = search needs
-
-mul-offer-of : tie.Need-mul-offer-of Inv-loop μ-loop
-mul-offer-of c = search needs
-
-shared-slice-read-offer-of : tie.Need-shared-slice-read-offer-of Inv-loop μ-loop
-shared-slice-read-offer-of c = search needs
-
-add-offer-of-2 : tie.Need-add-offer-of-2 Inv-loop μ-loop
-add-offer-of-2 c = search needs
-
-mul-offer-of-2 : tie.Need-mul-offer-of-2 Inv-loop μ-loop
-mul-offer-of-2 c = search needs
-
-shared-slice-read-offer-of-2 : tie.Need-shared-slice-read-offer-of-2 Inv-loop μ-loop
-shared-slice-read-offer-of-2 c = search needs
-
-offer-of-requires : tie.Need-offer-of-requires Inv-loop μ-loop
-offer-of-requires c κs = search needs
+offer-at-requires : tie.Need-offer-at-requires Inv-loop μ-loop
+offer-at-requires c κs = search needs
 
 better-requires : tie.Need-better-requires Inv-loop μ-loop
 better-requires c κs = search needs
@@ -52,12 +31,12 @@ loop-less c = search needs
 
 loop-again : tie.Need-loop-again Inv-loop μ-loop
 loop-again c =
-    let c4 = c .before .before .before .before in
-    let l = c4 .before .loop in
-    let s = c4 .before .before .before .args in (
-      omega (arith, c4 .loop-test .taken),
-      rank-turn (s .work .now) (s .scratch) (s .limits) (s .weight) (s .home) (l .r) (l .best) (c .before .offer-of .result) (c .better .result)
-          (l .inv .1) (c .before .offer-of .ensures) (c .better .ensures),
+    let c2 = c .before .before in
+    let l = c2 .before .loop in
+    let s = c2 .before .before .before .args in (
+      omega (arith, c2 .loop-test .taken),
+      rank-turn (s .work .now) (s .scratch) (s .limits) (s .weight) (s .home) (l .r) (l .best) (c .before .offer-at .result) (c .better .result)
+          (l .inv .1) (c .before .offer-at .ensures) (c .better .ensures),
     )
 
 returns : tie.Need-returns Inv-loop μ-loop
@@ -73,15 +52,8 @@ best-of-ranks-spec =
     (tie.spec
     Inv-loop
     μ-loop
-    add-tallies
     loop-holds
-    add-offer-of
-    mul-offer-of
-    shared-slice-read-offer-of
-    add-offer-of-2
-    mul-offer-of-2
-    shared-slice-read-offer-of-2
-    offer-of-requires
+    offer-at-requires
     better-requires
     add-r
     loop-less
