@@ -108,6 +108,27 @@ above-last a b = split (eqb a b) (λ p. rw p (or-false (ltb b a))) (λ p. rw p (
     or-false true = refl
     or-false false = refl
 
+-- ---- a list gone through from the left
+
+module _ {A B : Type 0} where
+  -- one more at the end
+  pub foldl-snoc : (f : B → A → B) (y : B) (xs : List A) (x : A) {zs : List A} → zs ≡ xs ++ (x ∷ []) → foldl f y zs ≡ f (foldl f y xs) x
+  foldl-snoc f y xs x e = ap (foldl f y) e ∙ go xs y
+    where
+      go : (us : List A) (b : B) → foldl f b (us ++ (x ∷ [])) ≡ f (foldl f b us) x
+      go [] b = refl
+      go (u ∷ us) b = go us (f b u)
+
+  -- two steps that agree on what is met
+  pub foldl-in
+      : (P : A → Type 0) (f g : B → A → B)
+      → ((y : B) (x : A) → P x → f y x ≡ g y x)
+      → (xs : List A) (y : B)
+      → All P xs
+      → foldl f y xs ≡ foldl g y xs
+  foldl-in P f g e [] y a = refl
+  foldl-in P f g e (x ∷ xs) y a = foldl-in P f g e xs (f y x) (a .1) ∙ ap (λ (z : B). foldl g z xs) (e y x (a .0))
+
 -- ---- counts
 
 -- 1 where a test passes

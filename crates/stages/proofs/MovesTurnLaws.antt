@@ -1,6 +1,6 @@
 -- What a vertex's turn does in the work slice: the best offer, the loads after a move, and the step that was made. Assumes nothing.
 use Prim.Native.Nat.{ℕ, _+_, _-_, _≤_, _<_, _^_, _*_}
-use mathlib.Core.Path.{_≡_, refl, sym, ap, _∙_}
+use mathlib.Core.Path.{_≡_, sym, ap, _∙_}
 use mathlib.Core.Bool.{Bool, true, false, cond}
 use mathlib.Core.List.{List, [], _∷_, _++_, map, map-append}
 use mathlib.Core.Option.{Option, none, some}
@@ -10,10 +10,10 @@ use lib.ListN.{length, set, length-set}
 use lib.Seq.{getD-set-same, getD-set-other, ext-getD}
 use lib.Dec.{leb, ltb, eqb}
 use borrow.Author.Tests.{ne-eqb, eqb-true, eqb-false, ltb-true, ltb-false, le-leb, leb-true}
-use Rattle.links.specs.Lists.{at, All, any, foldl, range}
+use Rattle.links.specs.Lists.{at, All, any, range}
 use Rattle.links.specs.Parts.{part, Kept}
 use Rattle.links.specs.Graph.{row, linksTo, load}
-use Rattle.links.proofs.ListLaws.{split, iff-eq, all-to, all-range}
+use Rattle.links.proofs.ListLaws.{split, iff-eq, all-to, all-range, foldl-snoc, foldl-in}
 use Rattle.links.proofs.RangeLaws.{range-snoc}
 use Rattle.links.proofs.PartLaws.{kept-set, kept-refl, kept-wide, part-set-in}
 use Rattle.stages.specs.Level.{offsetsAt, neighborsAt, rowsAt, weightsAt, ownersAt, Ready, balanceIn}
@@ -22,7 +22,6 @@ use Rattle.stages.specs.MovesCode.{Clear, Roomed, Tallied, Weighed, Movi
 use Rattle.stages.specs.declared.level.HierarchyLevel.{HierarchyLevel}
 use Rattle.stages.specs.declared.level.Limits.{Limits}
 use Rattle.stages.specs.declared.moves.Offer.{Offer}
-use Rattle.stages.proofs.StepLaws.{foldl-append}
 use Rattle.stages.proofs.LoadSetLaws.{load-set, load-sum, load-holds}
 use Rattle.stages.proofs.TallyLaws.{part-snoc, any-cons, any-nothing}
 use Rattle.stages.proofs.TargetLaws.{offerAt, bestOffer, target-by-row, target-by-ranks, target-rank, untempted}
@@ -94,17 +93,7 @@ pub rank-turn
 rank-turn w scratch limits weight home r best o best′ f g k =
     let step : Offer → ℕ → Offer = λ x s. betterOffer x (rankOffer w scratch limits weight home s) in
     let s : range 0 (r + 1) ≡ range 0 r ++ (r ∷ []) = ap (range 0) (add-one r) ∙ range-snoc 0 r r (omega arith) in
-    k ∙ rw (f, g) (sym (ap (foldl step noOffer) s ∙ foldl-append step (range 0 r) (r ∷ []) noOffer))
-
--- two steps that agree on what is met
-foldl-in
-    : {A B : Type 0} (P : A → Type 0) (f g : B → A → B)
-    → ((y : B) (x : A) → P x → f y x ≡ g y x)
-    → (xs : List A) (y : B)
-    → All P xs
-    → foldl f y xs ≡ foldl g y xs
-foldl-in P f g e [] y a = refl
-foldl-in P f g e (x ∷ xs) y a = foldl-in P f g e xs (f y x) (a .1) ∙ ap (λ (z : _). foldl g z xs) (e y x (a .0))
+    k ∙ rw (f, g) (sym (foldl-snoc step noOffer (range 0 r) r s))
 
 pub best-start : (w : List ℕ) (l : HierarchyLevel) (limits : Limits) (v : ℕ) → bestTo w l limits v (at (offsetsAt w l) v) ≡ noOffer
 best-start w l limits v = let e : at (offsetsAt w l) v - at (offsetsAt w l) v ≡ 0 = omega arith in rw e
@@ -156,7 +145,7 @@ module _ {w : List ℕ} {l : HierarchyLevel} {scratch : ℕ} (limits : Limits) (
         let m : map (at os) (part (neighborsAt w l) (at (offsetsAt w l) v) (i + 1)) ≡ map (at os) us ++ (r ∷ []) =
         ap (map (at os)) s ∙ map-append (at os) us (at (neighborsAt w l) i ∷ []) ∙ ap (λ (x : ℕ). map (at os) us ++ (x ∷ [])) (sym d) in
         k ∙ rw (f, g ∙ offer-is mine weight home r a b c e)
-        (sym (ap (foldl step noOffer) m ∙ foldl-append step (map (at os) us) (r ∷ []) noOffer))
+        (sym (foldl-snoc step noOffer (map (at os) us) r m))
 
     -- all ranks met
     pub ranks-end

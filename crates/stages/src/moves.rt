@@ -301,7 +301,7 @@ fn best_of_neighbors(
     best
 }
 
-// What is offered to v and is best: found along its row or along the ranks, whichever is shorter.
+// The best offer for v, found along its row or along the ranks, whichever is shorter.
 fn best_offer(work: &[u32], l: HierarchyLevel, scratch: usize, limits: Limits, v: usize) -> Offer
     requires { ⌜ Weighed (now work) l scratch (limits .ranks) × (v < l .vertices) × Tallied (now work) l (scratch + limits .ranks) (limits .ranks) v ⌝ }
     ensures { λ r. ⌜ offered r ≡ target (balanceIn limits) (rowsAt (now (work .entry)) l) (weightsAt (now (work .entry)) l) (ownersAt (now (work .entry)) l) v ⌝ }
