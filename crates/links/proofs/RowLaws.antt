@@ -14,12 +14,12 @@ use Rattle.links.specs.Graph.{row, rowsOf, vertexCount, neighborsOf, nei
 use Rattle.links.proofs.ListLaws.{split, length-range, all-of}
 use Rattle.links.proofs.PartLaws.{length-part, getD-part}
 
-pub getD-map-range : (f : ℕ → List ℕ) (i n k : ℕ) → k < n → getD (map f (range i n)) k [] ≡ f (i + k)
-getD-map-range f i zero k h = absurd (not-suc-le-zero h)
-getD-map-range f i (suc n) zero h = let e : i + 0 ≡ i = omega arith in rw e
-getD-map-range f i (suc n) (suc k) h =
+pub getD-map-range : {A : Type 0} (d : A) (f : ℕ → A) (i n k : ℕ) → k < n → getD (map f (range i n)) k d ≡ f (i + k)
+getD-map-range d f i zero k h = absurd (not-suc-le-zero h)
+getD-map-range d f i (suc n) zero h = let e : i + 0 ≡ i = omega arith in rw e
+getD-map-range d f i (suc n) (suc k) h =
     let e : suc i + k ≡ i + suc k = omega arith in
-    getD-map-range f (suc i) n k (le-of-suc-le-suc h) ∙ ap f e
+    getD-map-range d f (suc i) n k (le-of-suc-le-suc h) ∙ ap f e
 
 pub length-rows : (o l : List ℕ) → length (rowsOf o l) ≡ vertexCount o
 unfolding rowsOf
@@ -27,7 +27,7 @@ length-rows o l = length-map (range 0 (vertexCount o)) (neighborsOf o l) ∙ len
 
 pub row-query : (o l : List ℕ) (v : ℕ) → v < vertexCount o → row (rowsOf o l) v ≡ neighborsOf o l v
 unfolding rowsOf
-row-query o l v h = getD-map-range (neighborsOf o l) 0 (vertexCount o) v h ∙ ap (neighborsOf o l) (zero-add v)
+row-query o l v h = getD-map-range [] (neighborsOf o l) 0 (vertexCount o) v h ∙ ap (neighborsOf o l) (zero-add v)
 
 -- what holds of each of a list holds at each place, and the other way round
 pub all-place : (P : ℕ → Type 0) (xs : List ℕ) (i : ℕ) → All P xs → i < length xs → P (at xs i)

@@ -196,7 +196,7 @@ module _ (b : List ℕ) where
 
     pub row-of : (v : ℕ) → v < vertexCountOf b → row (fileRows b) v ≡ fileRow b v
     unfolding fileRows
-    row-of v h = getD-map-range (fileRow b) 0 (vertexCountOf b) v h ∙ ap (fileRow b) (zero-add v)
+    row-of v h = getD-map-range [] (fileRow b) 0 (vertexCountOf b) v h ∙ ap (fileRow b) (zero-add v)
 
     pub length-file : length (fileRows b) ≡ vertexCountOf b
     unfolding fileRows

@@ -259,7 +259,7 @@ module _
       let hm : h < m = omega (arith, all-in (λ x. x < length (c .rows)) (row (c .rows) g) h (coarse-sound rows s ws small weighed .below g k) l) in
       let z : 0 + g ≡ g = omega arith in
       let is : row (c .rows) g ≡ coarseRow rows (c .group) m g =
-      getD-map-range (coarseRow rows (c .group) m) 0 m g (omega arith) ∙ ap (coarseRow rows (c .group) m) z in
+      getD-map-range [] (coarseRow rows (c .group) m) 0 m g (omega arith) ∙ ap (coarseRow rows (c .group) m) z in
       let both : not (eqb h g) && elem h (touched rows (c .group) g) ≡ true =
       sym (elem-row rows (c .group) s m g h hm) ∙ ap (elem h) (sym is) ∙ l in
       let w = touched-of rows (c .group) s g h (and-r (not (eqb h g)) (elem h (touched rows (c .group) g)) both) in

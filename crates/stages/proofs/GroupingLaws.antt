@@ -101,7 +101,7 @@ module _ (rows : List (List ℕ)) (group : List ℕ) where
           let f = coarseRow rows group m in
           let size : length (map f (range 0 m)) ≡ m = length-map (range 0 m) f ∙ length-range 0 m in
           let row-is : (g : ℕ) → g < length (map f (range 0 m)) → row (map f (range 0 m)) g ≡ f g =
-          λ g h. let z : 0 + g ≡ g = omega arith in getD-map-range f 0 m g (omega (arith, size)) ∙ ap f z in
+          λ g h. let z : 0 + g ≡ g = omega arith in getD-map-range [] f 0 m g (omega (arith, size)) ∙ ap f z in
           let back : (g h : ℕ) → elem h (touched g) ≡ elem g (touched h) =
           λ g h. iff-eq (elem h (touched g)) (elem g (touched h)) (touched-back g h) (touched-back h g) in
           record {
