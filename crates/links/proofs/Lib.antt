@@ -4,7 +4,9 @@ pub mod BestLaws
 pub mod SoundLaws
 pub mod RowLaws
 pub mod HalvingLaws
+pub mod CauseLaws
 pub mod ListTestLaws
 pub mod OwnerLaws
 pub mod RangeLaws
 pub mod PackLaws
+pub mod WorkloadLaws

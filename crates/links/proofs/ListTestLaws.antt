@@ -14,6 +14,7 @@ use borrow.Author.Tests.{leb-true, le-leb, lt-leb, ltb-true, ltb-false, lt-ltb, 
 use Rattle.links.specs.Lists.{at, all, range, elem}
 use Rattle.links.specs.Graph.{row, vertexCount, neighborsOf, rowsOf, strictlyRising, neverFalling, goodRow, badOffsets, badLists, listsCause, ListsTested}
 use Rattle.links.specs.ListTest.{validRow, validRows, mirroredRow, mirroredRows, Rising}
+use Rattle.links.proofs.CauseLaws.{cause-holds, cause-fails}
 use Rattle.links.proofs.ListLaws.{split, and-l, all-of, all-in, elem-range, and-false}
 use Rattle.links.proofs.SoundLaws.{sound-lists}
 use Rattle.links.proofs.RowLaws.{length-rows, row-always, query-none}
@@ -187,11 +188,11 @@ module _ (o l : List ℕ) where
   module _ (r : ℕ) (e : r ≡ listsCause o l) where
     pub lists-bad : (r ≡ 0 → ⊥) → badLists o l ≡ true
     unfolding listsCause
-    lists-bad f = split (badLists o l) (λ p. p) (λ p. absurd (f (e ∙ rw p)))
+    lists-bad f = cause-holds (badLists o l) 3 r e f
 
     pub lists-fine : r ≡ 0 → badLists o l ≡ false
     unfolding listsCause
-    lists-fine f = split (badLists o l) (λ p. let z : _≡_ {A = ℕ} 4 0 = rw p at (sym e ∙ f) in absurd (omega arith)) (λ p. p)
+    lists-fine f = cause-fails (badLists o l) 3 r e f
 
   pub tested : (b : Bool) → badLists o l ≡ b → ListsTested o l (cond b 4 0)
   unfolding listsCause

@@ -6,3 +6,4 @@ pub mod Graph
 pub mod Owners
 pub mod Options
 pub mod ListTest
+pub mod Workloads

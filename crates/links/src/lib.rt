@@ -1,9 +1,10 @@
-// Loads and links: rules 1 and 2 of document 01, the neighbor query and the list test, options and stats, parts of the lent work slice.
+// Loads and links: rules 1 and 2 of document 01, the neighbor query and the list test, workloads, options and stats, parts of the lent work slice.
 mod lists;
 mod loads;
 mod options;
 mod owners;
 mod parts;
+mod workloads;
 
 pub use lists::holds;
 pub use lists::lists_cause;
@@ -31,3 +32,5 @@ pub use parts::index;
 pub use parts::store;
 pub use parts::store_part;
 pub use parts::wide;
+pub use workloads::bad_workload;
+pub use workloads::workloads_cause;

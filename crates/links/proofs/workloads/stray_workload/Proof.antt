@@ -1,0 +1,63 @@
+-- The invariant: from i on there is a bad workload just where there is one at all. Assumes nothing.
+use Prim.Native.Nat.{ℕ, _≤_, _<_, _-_, _+_}
+use mathlib.Core.Path.{_≡_, refl, sym, _∙_}
+use mathlib.Core.Bool.{true, cond}
+use mathlib.Core.List.{List}
+use native.Mathlib.Omega.{arith}
+use native.Mathlib.Numerals.{add-one}
+use lib.ListN.{length, drop, drop-of-length-le}
+use lib.Seq.{drop-cons}
+use borrow.Author.Needs.{needs}
+use Rattle.links.specs.Lists.{at, any}
+use Rattle.links.specs.Workloads.{badWorkload}
+use Rattle.links.proofs.workloads.stray_workload.Statement.{statement}
+use Rattle.links.proofs.workloads.stray_workload.Tie as tie
+
+any-next : (ws : List ℕ) (i : ℕ) → i < length ws → any badWorkload (drop i ws) ≡ cond (badWorkload (at ws i)) true (any badWorkload (drop (i + 1) ws))
+any-next ws i h = rw (drop-cons ws i 0 h, add-one i)
+
+abbrev Inv-loop : tie.InvT-loop
+Inv-loop workloads i₀ i = (i ≤ length workloads) × (any badWorkload (drop i workloads) ≡ any badWorkload workloads)
+
+abbrev μ-loop : tie.MeasureT-loop
+μ-loop workloads i₀ i = length workloads - i
+
+loop-holds : tie.Need-loop-holds Inv-loop μ-loop
+loop-holds c = (omega arith, refl)
+
+mul-bad-workload : tie.Need-mul-bad-workload Inv-loop μ-loop
+mul-bad-workload c = search needs
+
+shared-slice-read-bad-workload : tie.Need-shared-slice-read-bad-workload Inv-loop μ-loop
+shared-slice-read-bad-workload c = search needs
+
+bad-workload-requires : tie.Need-bad-workload-requires Inv-loop μ-loop
+bad-workload-requires c κs = search needs
+
+returns : tie.Need-returns Inv-loop μ-loop
+returns c =
+    let ws = c .before .before .before .before .before .before .args .workloads .now in
+    let l = c .before .before .before .before .loop in
+    sym (sym (l .inv .1) ∙ any-next ws (l .i) (c .before .before .before .loop-test .taken) ∙ rw (sym (c .before .bad-workload .ensures) ∙ c .if1 .taken))
+
+add-i : tie.Need-add-i Inv-loop μ-loop
+add-i c = search needs
+
+loop-less : tie.Need-loop-less Inv-loop μ-loop
+loop-less c = search needs
+
+loop-again : tie.Need-loop-again Inv-loop μ-loop
+loop-again c =
+    let ws = c .before .before .before .before .before .before .args .workloads .now in
+    let l = c .before .before .before .before .loop in (
+      omega (arith, c .before .before .before .loop-test .taken),
+      rw (sym (c .before .bad-workload .ensures) ∙ c .if1 .left) at (sym (any-next ws (l .i) (c .before .before .before .loop-test .taken))) ∙ l .inv .1,
+    )
+
+returns-2 : tie.Need-returns-2 Inv-loop μ-loop
+returns-2 c = rw (drop-of-length-le (c .before .before .before .args .workloads .now) (c .loop-test .left)) at (c .before .loop .inv .1)
+
+pub stray-workload-spec : {M : Type 1} → statement M
+stray-workload-spec =
+    tie.close
+    (tie.spec Inv-loop μ-loop loop-holds mul-bad-workload shared-slice-read-bad-workload bad-workload-requires returns add-i loop-less loop-again returns-2)
