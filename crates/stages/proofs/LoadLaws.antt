@@ -1,4 +1,4 @@
--- Loads: what a change of one owner does to them, loads by group number, and that growth and moves keep them within the cap. Assumes nothing.
+-- Loads: what a change of one owner does to them, loads by group number, and that growth, moves and swaps keep them within the cap. Assumes nothing.
 use Prim.Native.Nat.{ℕ, zero, suc, _+_, _≤_, _<_}
 use mathlib.Core.Path.{_≡_, refl, sym, ap, _∙_}
 use mathlib.Core.Logic.{_≢_}
@@ -16,6 +16,7 @@ use Rattle.stages.specs.Moves.{Step, move, swap, after}
 use Rattle.links.proofs.ListLaws.{split, eqb-sym, tally, count-cons, any-none}
 use Rattle.stages.proofs.CutLaws.{swap-ranks}
 use Rattle.stages.proofs.StepLaws.{Along, length-after, Swapped, Moved}
+use Rattle.stages.proofs.LoadSetLaws.{load-swap}
 use Rattle.stages.proofs.GrowthLaws.{Takes, Taking, turn-takes, growth-along}
 
 -- ---- one owner changed
@@ -207,7 +208,7 @@ module _ (cap : ℕ) (rows : List (List ℕ)) (weights : List ℕ) where
       (growth-along cap rows weights (Taking cap weights) (λ s q l. turn-takes cap rows weights s q) seeds)
       (seeds-within cap weights (low-weights cap weights e) (length rows) seeds 0 r h)
 
-  -- ---- moves keep every load within the cap; swaps leave the numbers owned
+  -- ---- moves and swaps keep every load within the cap; swaps leave the numbers owned
 
   -- each move has room where it goes
   pub moves-within
@@ -220,6 +221,25 @@ module _ (cap : ℕ) (rows : List (List ℕ)) (weights : List ℕ) where
   moves-within r (move v t ∷ ss) o a h = moves-within r ss (after o (move v t)) (a .1) (within-set cap weights o v t r (a .0 .2) h)
   moves-within r (swap u v ∷ ss) o a h = absurd (a .0)
 
+  -- a swap leaves its two ranks within it, and the others as they were
+  pub swaps-within
+      : (r : ℕ) (ss : List Step) (o : List ℕ)
+      → length o ≡ length rows
+      → length weights ≡ length rows
+      → Along (Swapped cap rows weights) after o ss
+      → load weights o r ≤ cap
+      → load weights (foldl after o ss) r ≤ cap
+  swaps-within r [] o n m a h = h
+  swaps-within r (move v t ∷ ss) o n m a h = absurd (a .0)
+  swaps-within r (swap u v ∷ ss) o n m a h = swaps-within r ss (after o (swap u v)) (length-after o (swap u v) ∙ n) m (a .1) here
+    where
+      here : load weights (after o (swap u v)) r ≤ cap
+      here = split (eqb (at o u) r)
+          (λ p. let e : at o u ≡ r = eqb-true (at o u) r p in rw e at (a .0 .3))
+          (λ p. split (eqb (at o v) r)
+          (λ q. let e : at o v ≡ r = eqb-true (at o v) r q in rw e at (a .0 .4))
+          (λ q. let l = rw (p, q) at (load-swap weights o u v r (rw n (a .0 .0)) (rw n (a .0 .1)) (m ∙ sym n)) in omega (arith, l)))
+
 swap-owned : (o : List ℕ) (u v r : ℕ) → u < length o → v < length o → at o u ≢ at o v → owned (after o (swap u v)) r ≡ owned o r
 unfolding after
 swap-owned o u v r h k f =
@@ -229,12 +249,12 @@ swap-owned o u v r h k f =
 
 -- two of two ranks change places
 pub swaps-owned
-    : (rows : List (List ℕ)) (r : ℕ) (ss : List Step) (o : List ℕ)
+    : (cap : ℕ) (rows : List (List ℕ)) (weights : List ℕ) (r : ℕ) (ss : List Step) (o : List ℕ)
     → length o ≡ length rows
-    → Along (Swapped rows) after o ss
+    → Along (Swapped cap rows weights) after o ss
     → owned (foldl after o ss) r ≡ owned o r
-swaps-owned rows r [] o n a = refl
-swaps-owned rows r (move v t ∷ ss) o n a = absurd (a .0)
-swaps-owned rows r (swap u v ∷ ss) o n a =
-    swaps-owned rows r ss (after o (swap u v)) (length-after o (swap u v) ∙ n) (a .1)
+swaps-owned cap rows weights r [] o n a = refl
+swaps-owned cap rows weights r (move v t ∷ ss) o n a = absurd (a .0)
+swaps-owned cap rows weights r (swap u v ∷ ss) o n a =
+    swaps-owned cap rows weights r ss (after o (swap u v)) (length-after o (swap u v) ∙ n) (a .1)
     ∙ swap-owned o u v r (rw n (a .0 .0)) (rw n (a .0 .1)) (swap-ranks rows o u v (a .0 .2))

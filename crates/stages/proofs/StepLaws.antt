@@ -7,13 +7,13 @@ use mathlib.Core.List.{List, [], _∷_, _++_, map, head-eq-of-cons-eq, nil≢con
 use mathlib.Core.Option.{Option, none, some}
 use native.Mathlib.Omega.{arith}
 use lib.ListN.{length, set, length-set}
-use lib.Dec.{ltb, eqb}
+use lib.Dec.{leb, ltb, eqb}
 use borrow.Author.Tests.{ltb-true, ltb-false, le-leb, leb-true}
 use Rattle.links.specs.Lists.{at, filter, foldl, sortBy, range, elem, empty, option, concatMap, All}
 use Rattle.links.specs.Loads.{Balance}
 use Rattle.links.specs.Graph.{vertices, Sound, linksTo, load, cutLinks}
 use Rattle.stages.specs.Moves.{Step, move, swap, after, gain, repeat, mayLeave, mayJoin, preferred, target, destination, movePass, refineByCut}
-use Rattle.stages.specs.Swaps.{Candidate, ahead, candidates, Proposal, sooner, propose, proposals, allProposals, inBalance, applies, swapPass, refineFinePairSwaps}
+use Rattle.stages.specs.Swaps.{Candidate, ahead, candidates, Proposal, sooner, propose, proposals, allProposals, inBalance, keepsBalance, applies, swapPass, refineFinePairSwaps}
 use Rattle.links.proofs.ListLaws.{split, and-l, and-r, all-filter, all-take, all-sort, all-to, to-all, all-map, all-concat, all-range, all-in, elem-range, filter-none, best-none, best-kept}
 use Rattle.stages.proofs.CutLaws.{move-cut, InRange, step-cut}
 
@@ -73,10 +73,12 @@ length-steps (s ∷ ss) own = length-steps ss (after own s) ∙ length-after own
 abbrev pub Gainful : List (List ℕ) → List ℕ → Step → Type 0
 Gainful rows own s = InRange (length rows) s × (1 ≤ gain rows own s)
 
--- a swap of vertices, with a gain
-abbrev pub Swapped : List (List ℕ) → List ℕ → Step → Type 0
-Swapped rows own (move v r) = ⊥
-Swapped rows own (swap u v) = (u < length rows) × (v < length rows) × (1 ≤ gain rows own (swap u v))
+-- a swap of vertices, with a gain, that leaves both loads within the cap
+abbrev pub Swapped : ℕ → List (List ℕ) → List ℕ → List ℕ → Step → Type 0
+Swapped cap rows weights own (move v r) = ⊥
+Swapped cap rows weights own (swap u v) =
+    (u < length rows) × (v < length rows) × (1 ≤ gain rows own (swap u v))
+    × (load weights (after own (swap u v)) (at own u) ≤ cap) × (load weights (after own (swap u v)) (at own v) ≤ cap)
 
 -- a move of a vertex, with a gain, to a rank that has room for it
 abbrev pub Moved : ℕ → List (List ℕ) → List ℕ → List ℕ → Step → Type 0
@@ -84,9 +86,9 @@ Moved cap rows weights own (move v r) = (v < length rows) × (1 ≤ gain rows ow
 Moved cap rows weights own (swap u v) = ⊥
 
 -- a swap, and a move, is a step with a gain
-pub swapped-gainful : (rows : List (List ℕ)) (own : List ℕ) (s : Step) → Swapped rows own s → Gainful rows own s
-swapped-gainful rows own (move v r) a = absurd a
-swapped-gainful rows own (swap u v) a = ((a .0, a .1), a .2)
+pub swapped-gainful : (cap : ℕ) (rows : List (List ℕ)) (weights own : List ℕ) (s : Step) → Swapped cap rows weights own s → Gainful rows own s
+swapped-gainful cap rows weights own (move v r) a = absurd a
+swapped-gainful cap rows weights own (swap u v) a = ((a .0, a .1), a .2)
 
 pub moved-gainful : (cap : ℕ) (rows : List (List ℕ)) (weights own : List ℕ) (s : Step) → Moved cap rows weights own s → Gainful rows own s
 moved-gainful cap rows weights own (move v r) a = (a .0, a .1)
@@ -323,31 +325,56 @@ module _ (b : Balance) (rows : List (List ℕ)) (weights : List ℕ) where
   applies-gain used own u v e =
       let a = not (elem u used) && not (elem v used) in
       let g = ltb 0 (gain rows own (swap u v)) in
-      let x = inBalance b rows weights own (at own u) in
-      let y = inBalance b rows weights own (at own v) in
+      let x = keepsBalance b rows weights own (swap u v) (at own u) in
+      let y = keepsBalance b rows weights own (swap u v) (at own v) in
       ltb-true 0 (gain rows own (swap u v)) (and-r a g (and-l (a && g) x (and-l (a && g && x) y e)))
+
+  kept-cap : (own : List ℕ) (s : Step) (r : ℕ) → keepsBalance b rows weights own s r ≡ true → load weights (after own s) r ≤ b .cap
+  unfolding keepsBalance inBalance
+  kept-cap own s r e =
+      let o = after own s in
+      let reaches = leb (b .floor) (load weights o r) in
+      let within = leb (load weights o r) (b .cap) in
+      leb-true _ _ (and-r reaches within (and-r (inBalance b rows weights own r) (reaches && within) e))
+
+  -- and leaves both loads within the cap
+  applies-within
+      : (used own : List ℕ) (u v : ℕ)
+      → applies b rows weights used own u v ≡ true
+      → (load weights (after own (swap u v)) (at own u) ≤ b .cap) × (load weights (after own (swap u v)) (at own v) ≤ b .cap)
+  unfolding applies
+  applies-within used own u v e =
+      let tests = not (elem u used) && not (elem v used) && ltb 0 (gain rows own (swap u v)) in
+      let first = keepsBalance b rows weights own (swap u v) (at own u) in
+      let second = keepsBalance b rows weights own (swap u v) (at own v) in (
+        kept-cap own (swap u v) (at own u) (and-r tests first (and-l (tests && first) second e)),
+        kept-cap own (swap u v) (at own v) (and-r (tests && first) second e),
+      )
 
   pass-swapped
       : (ps : List Proposal)
       → All (Ranged rows) ps
       → (used own : List ℕ)
-      → Along (Swapped rows) after own (swapPass b rows weights ps used own)
+      → Along (Swapped (b .cap) rows weights) after own (swapPass b rows weights ps used own)
   unfolding swapPass
   pass-swapped [] a used own = tt
   pass-swapped (p ∷ ps) a used own =
       let u = p .first in
       let v = p .second in
       split (applies b rows weights used own u v)
-      (λ e. rw e ((a .0 .0, a .0 .1, applies-gain used own u v e), pass-swapped ps (a .1) (u ∷ v ∷ used) (after own (swap u v))))
+      (λ e.
+      let w = applies-within used own u v e in
+      rw e ((a .0 .0, a .0 .1, applies-gain used own u v e, w .0, w .1), pass-swapped ps (a .1) (u ∷ v ∷ used) (after own (swap u v))))
       (λ e. rw e (pass-swapped ps (a .1) used own))
 
   -- every swap of a refinement
   pub swaps-made
-      : (listLength passes : ℕ) (own : List ℕ) → Along (Swapped rows) after own (refineFinePairSwaps b rows weights listLength passes own .steps)
+      : (listLength passes : ℕ) (own : List ℕ)
+      → Along (Swapped (b .cap) rows weights) after own (refineFinePairSwaps b rows weights listLength passes own .steps)
   unfolding refineFinePairSwaps
   swaps-made listLength passes own =
       let proposed : List ℕ → List Proposal = λ o. allProposals listLength rows (b .ranks) o in
-      repeat-along (λ o. swapPass b rows weights (proposed o) [] o) (Swapped rows)
+      repeat-along (λ o. swapPass b rows weights (proposed o) [] o) (Swapped (b .cap) rows weights)
       (λ o. pass-swapped (proposed o) (all-ranged listLength rows (b .ranks) o) [] o) passes own
 
   -- a refinement makes no more swaps than there are cut links
@@ -358,5 +385,6 @@ module _ (b : Balance) (rows : List (List ℕ)) (weights : List ℕ) where
       → length (refineFinePairSwaps b rows weights listLength passes own .steps) ≤ cutLinks rows own
   swaps-few s listLength passes own n =
       let ss = refineFinePairSwaps b rows weights listLength passes own .steps in
-      let gainful = along-to (Swapped rows) (Gainful rows) after (swapped-gainful rows) ss own (swaps-made listLength passes own) in
+      let made = swaps-made listLength passes own in
+      let gainful = along-to (Swapped (b .cap) rows weights) (Gainful rows) after (swapped-gainful (b .cap) rows weights) ss own made in
       omega (arith, steps-cut rows s ss own n gainful)

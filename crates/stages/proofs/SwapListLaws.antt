@@ -17,7 +17,7 @@ use Rattle.links.specs.Loads.{Balance}
 use Rattle.links.specs.Graph.{row, vertices, linksIn, linksTo}
 use Rattle.links.proofs.ListLaws.{split, count-length, all-take, all-sort, all-map, all-filter, all-to, all-concat, all-range, filter-append}
 use Rattle.stages.specs.Moves.{Step, swap, after, linked, gain}
-use Rattle.stages.specs.Swaps.{Candidate, Proposal, ahead, sooner, propose, candidates, proposals, applies, swapPass}
+use Rattle.stages.specs.Swaps.{Candidate, Proposal, ahead, sooner, propose, candidates, proposals, between, applies, swapPass}
 use Rattle.stages.specs.Slots.{candidate, proposal}
 use Rattle.stages.specs.SwapsCode.{offerVertex, proposed, Fair, Named, usedBy}
 use Rattle.stages.proofs.StepLaws.{foldl-append}
@@ -280,15 +280,11 @@ module _ (rows : List (List ℕ)) (x y : Candidate) (m o : ℕ) (e : o ≡ linke
 pub part-whole : (xs : List ℕ) → part xs 0 (length xs) ≡ xs
 part-whole xs = take-all (length xs - 0) xs (omega arith)
 
--- a load against floor and cap
-abbrev between : ℕ → ℕ → ℕ → Bool
-between floor cap load = leb floor load && leb load cap
+pub under-floor : (floor cap load : ℕ) → load < floor → false ≡ between floor cap load
+under-floor floor cap load h = rw (lt-leb floor load h)
 
-pub under-floor : (floor cap x load : ℕ) → x ≡ load → x < floor → false ≡ between floor cap load
-under-floor floor cap x load e h = rw (lt-leb floor load (omega arith))
-
-pub from-floor : (floor cap x load : ℕ) → x ≡ load → floor ≤ x → leb x cap ≡ between floor cap load
-from-floor floor cap x load e h = rw (le-leb floor load (omega arith), e)
+pub from-floor : (floor cap load : ℕ) → floor ≤ load → leb load cap ≡ between floor cap load
+from-floor floor cap load h = rw (le-leb floor load h)
 
 module _ (rows : List (List ℕ)) (owners : List ℕ) (u v a b there₁ joined₁ x there₂ joined₂ y home₁ home₂ r : ℕ) where
   -- a swap's gain, reckoned in the code's order

@@ -1,7 +1,7 @@
 -- One swap in the work slice, and swaps made one after the other. Assumes nothing.
 use Prim.Native.Nat.{ℕ, _+_, _-_, _≤_, _<_, _^_}
 use mathlib.Core.Path.{_≡_, refl, sym, ap, _∙_, subst}
-use mathlib.Core.Bool.{true, false, cond}
+use mathlib.Core.Bool.{Bool, true, false, cond}
 use mathlib.Core.List.{List, [], _∷_, _++_}
 use native.Mathlib.Omega.{arith}
 use lib.Dec.{eqb}
@@ -15,10 +15,10 @@ use Rattle.links.proofs.ListLaws.{split}
 use Rattle.links.proofs.PartLaws.{part-set-in, part-set-after, kept-refl, kept-trans, kept-wide, kept-set, kept-part-before}
 use Rattle.stages.specs.Level.{rowsAt, weightsAt, ownersAt, balanceIn}
 use Rattle.stages.specs.Moves.{Step, swap, after}
-use Rattle.stages.specs.Swaps.{Proposal, applies, swapPass}
-use Rattle.stages.specs.SwapsCode.{Given, Standing, Marked, changed, traded, Tradable, Swapped, Taken, usedBy}
+use Rattle.stages.specs.Swaps.{Proposal, inBalance, keepsBalance, applies, swapPass}
+use Rattle.stages.specs.SwapsCode.{fairTrade, Given, Standing, Marked, changed, traded, Tradable, Swapped, Taken, usedBy}
 use Rattle.stages.specs.declared.swaps.SwapRoom.{SwapRoom}
-use Rattle.stages.proofs.LoadSetLaws.{load-set, load-sum, load-holds}
+use Rattle.stages.proofs.LoadSetLaws.{load-sum, load-holds, load-swap, left-first, left-second}
 use Rattle.stages.proofs.StepLaws.{foldl-append}
 use Rattle.stages.proofs.LevelLaws.{length-owners, length-weights, owner-place, ready-kept, rows-kept, weights-kept, beneath}
 use Rattle.stages.proofs.SwapListLaws.{pass-append, pass-skip, pass-take}
@@ -44,25 +44,6 @@ second-load {w} {loads} {a} {b} {x} {y} t w₁ e = split (eqb a b)
     let z : at w₁ (loads + b) ≡ at w (loads + b) =
     ap (λ (l : List ℕ). at l (loads + b)) e ∙ getD-set-other w (loads + a) (loads + b) (at w (loads + a) - x + y) 0 (λ q. d (omega arith)) in
     (omega (arith, t .takes), omega (arith, t .gives, t .takes, t .first-light, t .second-light)))
-
--- a swap's loads: each rank gives what it had and takes what comes
-load-swap
-    : (ws os : List ℕ) (u v r : ℕ)
-    → u < length os
-    → v < length os
-    → length ws ≡ length os
-    → load ws (after os (swap u v)) r + cond (eqb (at os u) r) (at ws u) 0 + cond (eqb (at os v) r) (at ws v) 0
-    ≡ load ws os r + cond (eqb (at os v) r) (at ws u) 0 + cond (eqb (at os u) r) (at ws v) 0
-unfolding after
-load-swap ws os u v r h k e =
-    let b = at os v in
-    let os₁ = set os u b in
-    let l : length os₁ ≡ length os = length-set os u b in
-    let d : at os₁ v ≡ b = split (eqb v u)
-    (λ p. ap (at os₁) (eqb-true v u p) ∙ getD-set-same os u b 0 h)
-    (λ p. getD-set-other os u v b 0 (eqb-false v u p)) in
-    let q = rw d at (load-set ws os₁ v (at os u) r (omega arith) (omega arith)) in
-    omega (arith, load-set ws os u b r h (omega arith), q)
 
 -- the traded loads
 module _ {w : List ℕ} {loads a b x y : ℕ} (t : Tradable w loads a b x y) where
@@ -295,6 +276,47 @@ module _ {w : List ℕ} {s : SwapRoom} (t : Standing w s) (u v : ℕ) (h : u < s
         marked = λ used m i q.
             ap (λ (z : ℕ). eqb z 0) (kept₂ .below (s .used + i) (omega (arith, g .used-in))) ∙ rw e₁ (changed-marks g u v h k used m i q);
       }
+
+-- ---- the test of the loads
+
+module _ {w : List ℕ} {s : SwapRoom} (t : Standing w s) where
+  pub load-in : (v r : ℕ) → v < s .level .vertices → r ≡ at (ownersAt w (s .level)) v → s .loads + r < length w
+  load-in v r h e =
+      let k : r < s .limits .ranks = rw e (t .given .ranked v h) in
+      omega (arith, t .given .loads-in, t .given .tallies-in, t .given .lists-in)
+
+  pub load-at : (v r : ℕ) → v < s .level .vertices → r ≡ at (ownersAt w (s .level)) v
+      → at w (s .loads + r) ≡ load (weightsAt w (s .level)) (ownersAt w (s .level)) (at (ownersAt w (s .level)) v)
+  load-at v r h e = ap (λ (i : ℕ). at w (s .loads + i)) e ∙ t .loaded (at (ownersAt w (s .level)) v) (t .given .ranked v h)
+
+  pub gives-less : (v r x : ℕ) → v < s .level .vertices → r ≡ at (ownersAt w (s .level)) v → x ≡ at (weightsAt w (s .level)) v → x ≤ at w (s .loads + r)
+  gives-less v r x h e f = rw (f, load-at v r h e) (load-holds (weightsAt w (s .level)) (ownersAt w (s .level)) v (omega (arith, length-owners (t .given .ready))))
+
+  -- what two vertices' loads are after a trade is what they are after the swap
+  module _ (u v : ℕ) (h : u < s .level .vertices) (k : v < s .level .vertices) (d : at (ownersAt w (s .level)) u ≡ at (ownersAt w (s .level)) v → ⊥) where
+    abbrev trade : ℕ → ℕ → Bool
+    trade x y =
+        fairTrade (s .limits .floor) (s .limits .cap)
+        (load (weightsAt w (s .level)) (ownersAt w (s .level)) (at (ownersAt w (s .level)) x))
+        (at (weightsAt w (s .level)) x) (at (weightsAt w (s .level)) y)
+
+    abbrev kept : ℕ → Bool
+    kept x =
+        keepsBalance (balanceIn (s .limits)) (rowsAt w (s .level)) (weightsAt w (s .level)) (ownersAt w (s .level)) (swap u v) (at (ownersAt w (s .level)) x)
+
+    sized : (v < length (ownersAt w (s .level))) × (u < length (ownersAt w (s .level))) × (length (weightsAt w (s .level)) ≡ length (ownersAt w (s .level)))
+    sized =
+        let n = length-owners (t .given .ready) in
+        let m = length-weights (t .given .ready) in
+        (omega arith, omega arith, omega arith)
+
+    pub first-kept : trade u v ≡ kept u
+    unfolding fairTrade keepsBalance inBalance
+    first-kept = rw (left-first (weightsAt w (s .level)) (ownersAt w (s .level)) u v (sized .1) (sized .0) (sized .2) d)
+
+    pub second-kept : trade v u ≡ kept v
+    unfolding fairTrade keepsBalance inBalance
+    second-kept = rw (left-second (weightsAt w (s .level)) (ownersAt w (s .level)) u v (sized .1) (sized .0) (sized .2) d)
 
 -- ---- swaps one after the other
 

@@ -14,7 +14,7 @@ use Rattle.links.proofs.PartLaws.{part-part}
 use Rattle.links.proofs.RowLaws.{length-row, row-below}
 use Rattle.stages.specs.Level.{offsetsAt, neighborsAt, rowsAt, weightsAt, ownersAt, Ready, balanceIn}
 use Rattle.stages.specs.Moves.{swap, gain}
-use Rattle.stages.specs.Swaps.{inBalance, applies}
+use Rattle.stages.specs.Swaps.{keepsBalance, applies}
 use Rattle.stages.specs.MovesCode.{Roomed}
 use Rattle.stages.specs.SwapsCode.{Given, Marked}
 use Rattle.stages.specs.declared.swaps.SwapRoom.{SwapRoom}
@@ -88,8 +88,8 @@ pub applies-is
     → applies (balanceIn (s .limits)) (rowsAt w (s .level)) (weightsAt w (s .level)) used (ownersAt w (s .level)) u v
     ≡ (eqb (at w (s .used + u)) 0 && eqb (at w (s .used + v)) 0
     && ltb 0 (gain (rowsAt w (s .level)) (ownersAt w (s .level)) (swap u v))
-    && inBalance (balanceIn (s .limits)) (rowsAt w (s .level)) (weightsAt w (s .level)) (ownersAt w (s .level)) (at (ownersAt w (s .level)) u)
-    && inBalance (balanceIn (s .limits)) (rowsAt w (s .level)) (weightsAt w (s .level)) (ownersAt w (s .level)) (at (ownersAt w (s .level)) v))
+    && keepsBalance (balanceIn (s .limits)) (rowsAt w (s .level)) (weightsAt w (s .level)) (ownersAt w (s .level)) (swap u v) (at (ownersAt w (s .level)) u)
+    && keepsBalance (balanceIn (s .limits)) (rowsAt w (s .level)) (weightsAt w (s .level)) (ownersAt w (s .level)) (swap u v) (at (ownersAt w (s .level)) v))
 unfolding applies
 applies-is w s used m u v h k = rw (m u h, m v k)
 

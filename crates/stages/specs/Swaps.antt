@@ -57,18 +57,26 @@ unfoldable pub allProposals : ℕ → List (List ℕ) → ℕ → List ℕ → L
 allProposals listLength rows k owners =
     concatMap (λ a. concatMap (proposals listLength rows owners a) (range (suc a) (k - suc a))) (range 0 k)
 
+-- a load "from floor to cap"
+abbrev pub between : ℕ → ℕ → ℕ → Bool
+between floor cap load = leb floor load && leb load cap
+
 module _ (b : Balance) (rows : List (List ℕ)) (weights : List ℕ) where
-  -- a load "from floor to cap"
+  -- a rank's load is so
   unfoldable pub inBalance : List ℕ → ℕ → Bool
-  inBalance owners r = leb (b .floor) (load weights owners r) && leb (load weights owners r) (b .cap)
+  inBalance owners r = between (b .floor) (b .cap) (load weights owners r)
+
+  -- it is so before a step, and so the step "must also leave" it
+  unfoldable pub keepsBalance : List ℕ → Step → ℕ → Bool
+  keepsBalance owners step r = inBalance owners r && inBalance (after owners step) r
 
   -- "applied if neither was used this pass, gains reckoned again from present owners, .. sum above 0 (the swap's gain), and both loads are from
-  -- floor to cap"
+  -- floor to cap"; and "a swap must also leave both loads from floor to cap"
   unfoldable pub applies : List ℕ → List ℕ → ℕ → ℕ → Bool
   applies used owners u v =
       not (elem u used) && not (elem v used)
       && ltb 0 (gain rows owners (swap u v))
-      && inBalance owners (at owners u) && inBalance owners (at owners v)
+      && keepsBalance owners (swap u v) (at owners u) && keepsBalance owners (swap u v) (at owners v)
 
   unfoldable pub swapPass : List Proposal → List ℕ → List ℕ → List Step
   swapPass [] used owners = []

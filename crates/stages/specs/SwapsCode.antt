@@ -11,7 +11,7 @@ use Rattle.links.specs.Parts.{part, Kept}
 use Rattle.links.specs.Graph.{row, linksIn, linksTo}
 use Rattle.stages.specs.Level.{offsetsAt, neighborsAt, rowsAt, weightsAt, ownersAt, Ready, balanceIn}
 use Rattle.stages.specs.Moves.{Step, move, swap, after}
-use Rattle.stages.specs.Swaps.{Candidate, Proposal, ahead, sooner, propose, proposals, candidates, swapPass, allProposals, refineFinePairSwaps}
+use Rattle.stages.specs.Swaps.{Candidate, Proposal, ahead, sooner, propose, proposals, candidates, between, swapPass, allProposals, refineFinePairSwaps}
 use Rattle.stages.specs.MovesCode.{Ranked, Clear, Loaded}
 use Rattle.stages.specs.Slots.{candidate, slots, Sorted}
 use Rattle.stages.specs.declared.level.HierarchyLevel.{HierarchyLevel}
@@ -46,6 +46,10 @@ pub record Standing (w : List ℕ) (s : SwapRoom) : Type 0 where
 -- the used flags are those of the used vertices
 abbrev pub Marked : List ℕ → SwapRoom → List ℕ → Type 0
 Marked w s used = (v : ℕ) → v < s .level .vertices → eqb (at w (s .used + v)) 0 ≡ not (elem v used)
+
+-- a load is from floor to cap, and still is once it gives x for y
+unfoldable pub fairTrade : (floor cap load x y : ℕ) → Bool
+fairTrade floor cap load x y = between floor cap load && between floor cap (load - x + y)
 
 -- ---- listing
 

@@ -6,13 +6,13 @@ ghost use Prim.Native.Nat.{ℕ, _+_, _-_, _*_, _≤_, _<_, _^_};
 ghost use lib.ListN.{length};
 ghost use Rattle.links.specs.Lists.{at, All, foldl};
 ghost use Rattle.links.specs.Parts.{part};
-ghost use Rattle.links.specs.Graph.{row, linksIn, linksTo};
+ghost use Rattle.links.specs.Graph.{row, linksIn, linksTo, load};
 ghost use Rattle.stages.specs.Level.{offsetsAt, neighborsAt, rowsAt, weightsAt, ownersAt, balanceIn};
 ghost use Rattle.stages.specs.Moves.{linked, gain, swap};
-ghost use Rattle.stages.specs.Swaps.{ahead, inBalance, applies, proposals, allProposals};
+ghost use Rattle.stages.specs.Swaps.{ahead, between, applies, proposals, allProposals};
 ghost use Rattle.stages.specs.Slots.{candidate, proposal, slots, Sorted};
 ghost use Rattle.stages.specs.MovesCode.{Clear, Tallied};
-ghost use Rattle.stages.specs.SwapsCode.{listPlace, Given, AllSorted, bordering, Offered, OfferedEntry, Offering, Listed, Empty, ListedAll, Standing, Marked, candidateOf, Fair, Named, proposed, changed, traded, Tradable, Swapped, Holding, Facing, Taken, rankProposals, passFrom, Stepped, swapsAt, Swappable, RefinedBySwaps};
+ghost use Rattle.stages.specs.SwapsCode.{listPlace, fairTrade, Given, AllSorted, bordering, Offered, OfferedEntry, Offering, Listed, Empty, ListedAll, Standing, Marked, candidateOf, Fair, Named, proposed, changed, traded, Tradable, Swapped, Holding, Facing, Taken, rankProposals, passFrom, Stepped, swapsAt, Swappable, RefinedBySwaps};
 use crate::level::HierarchyLevel;
 use crate::level::Limits;
 use crate::moves::clear;
@@ -293,18 +293,39 @@ fn swap_gain(w: &[u32], s: SwapRoom, u: usize, v: usize) -> u32
     less(x + y, home)
 }
 
-// A rank's load is from floor to cap.
-fn in_balance(w: &[u32], s: SwapRoom, r: usize) -> bool
-    requires { ⌜ Standing (now w) s × (r < s .limits .ranks) ⌝ }
-    ensures { λ b. ⌜ b ≡ inBalance (balanceIn (s .limits)) (rowsAt (now (w .entry)) (s .level)) (weightsAt (now (w .entry)) (s .level))
-        (ownersAt (now (w .entry)) (s .level)) r ⌝ }
+// Whether a load is from floor to cap.
+fn in_balance(limits: Limits, load: u64) -> bool
+    ensures { λ b. ⌜ b ≡ between (limits .floor) (limits .cap) load ⌝ }
 {
-    let loads = s.loads;
-    let load = wide(w[loads + r]);
-    if load < s.limits.floor {
+    if load < limits.floor {
         return false;
     }
-    load <= s.limits.cap
+    load <= limits.cap
+}
+
+// Whether a load is from floor to cap, and still is once it gives x for y.
+fn fair_trade(limits: Limits, load: u32, x: u32, y: u32) -> bool
+    requires { ⌜ x ≤ load ⌝ }
+    ensures { λ b. ⌜ b ≡ fairTrade (limits .floor) (limits .cap) load x y ⌝ }
+{
+    if in_balance(limits, wide(load)) {
+        return in_balance(limits, wide(load - x) + wide(y));
+    }
+    false
+}
+
+// Whether u's rank gives u for v within floor and cap.
+fn trades_fairly(w: &[u32], s: SwapRoom, u: usize, v: usize) -> bool
+    requires { ⌜ Standing (now w) s × (u < s .level .vertices) × (v < s .level .vertices) ⌝ }
+    ensures { λ b. ⌜ b ≡ fairTrade (s .limits .floor) (s .limits .cap)
+        (load (weightsAt (now (w .entry)) (s .level)) (ownersAt (now (w .entry)) (s .level)) (at (ownersAt (now (w .entry)) (s .level)) u))
+        (at (weightsAt (now (w .entry)) (s .level)) u) (at (weightsAt (now (w .entry)) (s .level)) v) ⌝ }
+{
+    let loads = s.loads;
+    let r = owner_in(w, s.level, u);
+    let x = weight_in(w, s.level, u);
+    let y = weight_in(w, s.level, v);
+    fair_trade(s.limits, w[loads + r], x, y)
 }
 
 // Whether the swap of u and v applies.
@@ -324,8 +345,8 @@ fn applies(w: &[u32], s: SwapRoom, u: usize, v: usize) -> bool
     if swap_gain(w, s, u, v) == 0 {
         return false;
     }
-    if in_balance(w, s, owner_in(w, s.level, u)) {
-        return in_balance(w, s, owner_in(w, s.level, v));
+    if trades_fairly(w, s, u, v) {
+        return trades_fairly(w, s, v, u);
     }
     false
 }
