@@ -1,15 +1,18 @@
 -- Laws of the link file's tests, each as the code meets it. Assumes nothing.
-use Prim.Native.Nat.{ℕ, _+_, _-_, _*_, _≤_, _<_}
+use Prim.Native.Nat.{ℕ, _-_, _≤_, _<_}
 use mathlib.Core.Path.{_≡_, refl, sym, _∙_}
 use mathlib.Core.Bool.{Bool, true, false, _&&_, _||_, cond}
 use mathlib.Core.List.{List}
 use native.Mathlib.Omega.{arith}
 use lib.ListN.{length}
-use lib.Dec.{ltb, eqb}
-use borrow.Author.Tests.{ltb-false, eqb-true, lt-ltb, le-ltb, eq-eqb, ne-eqb}
-use Rattle.links.specs.Lists.{at}
+use lib.Dec.{ltb}
+use borrow.Author.Tests.{ltb-false, lt-ltb, le-ltb, eq-eqb, ne-eqb}
+use Rattle.links.specs.Lists.{at, any}
+use Rattle.links.specs.Workloads.{badWorkload, badWorkloads}
+use Rattle.links.proofs.WorkloadLaws.{workloads-fine}
 use Rattle.links.proofs.ListLaws.{split, and-l, and-r, or-l, or-r}
-use Rattle.multilevel.specs.File.{number, lowEnd, highEnd, linkBefore, goodLink, goodLinks, vertexCountOf, linkCountOf, overProgramLimits, fileCause, Sized}
+use Rattle.multilevel.specs.File.{number, lowEnd, highEnd, linkBefore, goodLink, goodLinks, vertexCountOf, linkCountOf, overProgramLimits, goodLength, fileWorkloads, fileCause, Sized}
+use Rattle.multilevel.proofs.FileWorkloadLaws.{workloads-told, links-within}
 
 module _ (b : List ℕ) (i j x y : ℕ) (ex : x ≡ lowEnd b i) (ey : y ≡ lowEnd b j) where
   pub before-lower : x < y → true ≡ linkBefore b i j
@@ -43,6 +46,22 @@ module _ (b : List ℕ) (i n x y : ℕ) (en : n ≡ vertexCountOf b) (ex : x ≡
 
 -- ---- the check's answers
 
+-- what the program's limits leave
+pub limits : (b : List ℕ) → overProgramLimits b ≡ false → (vertexCountOf b ≤ 64) × (linkCountOf b ≤ 128) × (number b 2 ≤ 8) × (number b 3 ≤ 12)
+unfolding overProgramLimits
+limits b q =
+    let v = ltb 64 (number b 0) in
+    let e = ltb 128 (number b 1) in
+    let k = ltb 8 (number b 2) in
+    let l = ltb 12 (number b 3) in
+    let three = or-l (v || e || k) l q in
+    let two = or-l (v || e) k three in (
+      ltb-false 64 (number b 0) (or-l v e two),
+      ltb-false 128 (number b 1) (or-r v e two),
+      ltb-false 8 (number b 2) (or-r (v || e) k three),
+      ltb-false 12 (number b 3) (or-r (v || e || k) l q),
+    )
+
 module _ (b : List ℕ) where
   pub file-short : length b < 28 → 10 ≡ fileCause b
   unfolding fileCause
@@ -54,41 +73,34 @@ module _ (b : List ℕ) where
     file-over e = rw (le-ltb (length b) 28 h, ← e)
 
     module _ (k : false ≡ overProgramLimits b) where
-      pub file-length : (e : ℕ) → e ≡ linkCountOf b → (length b ≡ 28 + 8 * e → ⊥) → 10 ≡ fileCause b
+      pub file-length : false ≡ goodLength b → 10 ≡ fileCause b
       unfolding fileCause
-      file-length e q d = rw (le-ltb (length b) 28 h, ← k, ne-eqb (length b) (28 + 8 * linkCountOf b) (λ z. d (rw q z)))
+      file-length g = rw (le-ltb (length b) 28 h, ← k, ← g)
 
-      pub file-links : (e : ℕ) → Sized b e → (r : Bool) → r ≡ goodLinks b → cond r 0 10 ≡ fileCause b
-      unfolding fileCause
-      file-links e s r q =
-          let z : length b ≡ 28 + 8 * linkCountOf b = rw (← (s .links)) (s .bytes) in
-          rw (le-ltb (length b) 28 h, ← k, eq-eqb (length b) (28 + 8 * linkCountOf b) z, q)
+      module _ (g : true ≡ goodLength b) where
+        pub file-links : false ≡ goodLinks b → 10 ≡ fileCause b
+        unfolding fileCause
+        file-links l = rw (le-ltb (length b) 28 h, ← k, ← g, ← l)
 
-      -- what the check goes on with
-      pub file-sized : (e : ℕ) → e ≡ linkCountOf b → length b ≡ 28 + 8 * e → Sized b e
-      unfolding overProgramLimits
-      file-sized e q l =
-          record {
-            links = q;
-            few = omega (arith, ltb-false 128 (linkCountOf b) (or-r (ltb 64 (number b 0)) (ltb 128 (number b 1)) (or-l (ltb 64 (number b 0) || ltb 128 (number b 1)) (ltb 8 (number b 2)) (or-l (ltb 64 (number b 0) || ltb 128 (number b 1) || ltb 8 (number b 2)) (ltb 12 (number b 3)) (sym k)))));
-            bytes = l;
-          }
+        pub file-workloads : true ≡ goodLinks b → (r : Bool) → r ≡ any badWorkload (fileWorkloads b) → cond r 13 0 ≡ fileCause b
+        unfolding fileCause
+        file-workloads l r q = rw (le-ltb (length b) 28 h, ← k, ← g, ← l) (workloads-told b r q)
+
+        -- what the check goes on with
+        pub file-sized : (e : ℕ) → e ≡ linkCountOf b → Sized b e
+        file-sized e q =
+            record { links = q; few = omega (arith, limits b (sym k) .1); bytes = omega (arith, links-within b (sym g)) }
 
 -- ---- what the check's 0 is worth
 
 pub record Accepted (b : List ℕ) : Type 0 where
   pub long : 28 ≤ length b
+  pub within : overProgramLimits b ≡ false
   pub vertices : vertexCountOf b ≤ 64
   pub sized : Sized b (linkCountOf b)
+  pub whole : goodLength b ≡ true
   pub links : goodLinks b ≡ true
-
-limits-vertices : (b : List ℕ) → overProgramLimits b ≡ false → vertexCountOf b ≤ 64
-unfolding overProgramLimits
-limits-vertices b q =
-    ltb-false 64 (number b 0)
-    (or-l (ltb 64 (number b 0)) (ltb 128 (number b 1))
-    (or-l (ltb 64 (number b 0) || ltb 128 (number b 1)) (ltb 8 (number b 2))
-    (or-l (ltb 64 (number b 0) || ltb 128 (number b 1) || ltb 8 (number b 2)) (ltb 12 (number b 3)) q)))
+  pub workloads : badWorkloads (vertexCountOf b) (fileWorkloads b) ≡ false
 
 pub accepted : (b : List ℕ) → fileCause b ≡ 0 → Accepted b
 unfolding fileCause
@@ -96,14 +108,17 @@ accepted b z = split (ltb (length b) 28)
     (λ p. let q : _≡_ {A = ℕ} 10 0 = rw p at z in absurd (omega arith))
     (λ p. split (overProgramLimits b)
     (λ q. let r : _≡_ {A = ℕ} 3 0 = rw (p, q) at z in absurd (omega arith))
-    (λ q. split (eqb (length b) (28 + 8 * linkCountOf b) && goodLinks b)
+    (λ q. split (goodLength b && goodLinks b)
     (λ r.
     let h = ltb-false (length b) 28 p in
-    let l = eqb-true (length b) (28 + 8 * linkCountOf b) (and-l (eqb (length b) (28 + 8 * linkCountOf b)) (goodLinks b) r) in
+    let g = and-l (goodLength b) (goodLinks b) r in
     record {
       long = h;
-      vertices = limits-vertices b q;
-      sized = file-sized b h (sym q) (linkCountOf b) refl l;
-      links = and-r (eqb (length b) (28 + 8 * linkCountOf b)) (goodLinks b) r;
+      within = q;
+      vertices = limits b q .0;
+      sized = file-sized b h (sym q) (sym g) (linkCountOf b) refl;
+      whole = g;
+      links = and-r (goodLength b) (goodLinks b) r;
+      workloads = workloads-fine (vertexCountOf b) (fileWorkloads b) 0 (sym (rw (p, q, r) at z)) refl;
     })
     (λ r. let s : _≡_ {A = ℕ} 10 0 = rw (p, q, r) at z in absurd (omega arith))))

@@ -1,4 +1,4 @@
--- Laws of what the reader writes: an end, a row, all rows. Assumes nothing.
+-- Laws of what the reader writes: an end, a row, all rows, the workloads. Assumes nothing.
 use Prim.Native.Nat.{ℕ, zero, suc, _+_, _-_, _*_, _≤_, _<_}
 use mathlib.Core.Path.{_≡_, refl, sym, ap, _∙_}
 use mathlib.Core.Bool.{true}
@@ -7,11 +7,12 @@ use native.Mathlib.Omega.{arith}
 use native.Mathlib.Nat.{zero-add}
 use native.Mathlib.Numerals.{add-one}
 use lib.ListN.{length, take, drop, set, length-append, length-drop}
-use lib.Seq.{sets, length-sets, sets-eq, take-suc, drop-cons, set-at, length-take-le, take-all, drop-set-lt, append-snoc}
+use lib.Seq.{sets, length-sets, sets-eq, take-suc, length-take-le, take-all, drop-set-lt}
 use borrow.Author.Tests.{eq-eqb, ne-eqb}
 use Rattle.links.specs.Lists.{at}
 use Rattle.links.specs.Graph.{row, offsetsFrom, packed}
 use Rattle.links.proofs.RangeLaws.{concat-append}
+use Rattle.links.proofs.PartLaws.{copy-more}
 use Rattle.links.proofs.PackLaws.{length-offsets, upTo, offset-at, upTo-suc, upTo-most}
 use Rattle.multilevel.specs.File.{lowEnd, highEnd, goodLinks, vertexCountOf, linkCountOf, fileRow, fileRows, fileOffsets, fileNeighbors, otherEnd, rowUpTo, Written, RowsWritten}
 use Rattle.multilevel.proofs.FileRowLaws.{row-more, row-made, row-of, length-file, length-entries}
@@ -90,6 +91,20 @@ pub row-start : (b : List ℕ) (v from : ℕ) (s : List ℕ) → Written (rowUpT
 unfolding rowUpTo
 row-start b v from s = written-none [] from s refl
 
+-- ---- a list from the front, number by number
+
+-- of f the first i numbers are written over o
+module _ (f o o′ : List ℕ) (i : ℕ) (w : o′ ≡ take i f ++ drop i o) where
+  pub front-length : i ≤ length f → i ≤ length o → length o′ ≡ length o
+  front-length h k =
+      ap length w ∙ length-append (take i f) (drop i o) ∙ omega (arith, length-take-le i f h, length-drop i o)
+
+  pub front-next : (x : ℕ) → i < length f → i < length o → x ≡ at f i → set o′ i x ≡ take (suc i) f ++ drop (suc i) o
+  front-next x h k e = rw (w, e) (rw add-one at (copy-more f o i h k))
+
+  pub front-end : i ≡ length f → o′ ≡ f ++ drop i o
+  front-end e = w ∙ ap (λ (l : List ℕ). l ++ drop i o) (take-all i f (omega arith))
+
 -- ---- all rows
 
 -- v rows are written: at is where the next one starts
@@ -117,12 +132,6 @@ packed-suc rs v h =
     ap packed (take-suc rs v [] h)
     ∙ concat-append (λ r. r) (take v rs) (row rs v ∷ [])
     ∙ ap (λ (l : List ℕ). packed (take v rs) ++ l) (append-nil (row rs v))
-
--- a store behind what is done
-set-next : (f o : List ℕ) (i x : ℕ) → i < length f → i < length o → x ≡ at f i → set (take i f ++ drop i o) i x ≡ take (suc i) f ++ drop (suc i) o
-set-next f o i x h k e =
-    rw (drop-cons o i 0 k, set-at (take i f) (at o i) (drop (suc i) o) x i (length-take-le i f (omega arith)), take-suc f i 0 h, e)
-    (sym (append-snoc (take i f) (at f i) (drop (suc i) o)))
 
 module _ (b : List ℕ) (g : goodLinks b ≡ true) (o o′ s s′ : List ℕ) (m v : ℕ) (w : Rowing b o o′ s s′ m v) where
   pub rowing-at : m ≡ upTo (fileRows b) v
@@ -156,14 +165,12 @@ module _ (b : List ℕ) (g : goodLinks b ≡ true) (o o′ s s′ : List ℕ) (m
         rw add-one
         (record {
           neighbors-so-far = more;
-          offsets-so-far = ap (λ (l : List ℕ). set l (suc v) r) (w .offsets-so-far) ∙ set-next (fileOffsets b) o (suc v) r f k x;
+          offsets-so-far = front-next (fileOffsets b) o o′ (suc v) (w .offsets-so-far) r f k x;
         })
 
   pub rowing-offsets : v < length o → v ≤ vertexCountOf b → length o′ ≡ length o
   rowing-offsets h k =
-      ap length (w .offsets-so-far)
-      ∙ length-append (take (suc v) (fileOffsets b)) (drop (suc v) o)
-      ∙ omega (arith, length-take-le (suc v) (fileOffsets b) (omega (arith, length-offsets 0 (fileRows b), length-file b g)), length-drop (suc v) o)
+      front-length (fileOffsets b) o o′ (suc v) (w .offsets-so-far) (omega (arith, length-offsets 0 (fileRows b), length-file b g)) (omega arith)
 
 pub rowing-end
     : (b : List ℕ) (g : goodLinks b ≡ true) (o o′ s s′ : List ℕ) (m v : ℕ)
@@ -174,12 +181,11 @@ pub rowing-end
 rowing-end b g o o′ s s′ m v e k w =
     let n : length (fileRows b) ≡ v = length-file b g ∙ sym e in
     let t : take v (fileRows b) ≡ fileRows b = take-all v (fileRows b) (omega arith) in
-    let f : take (suc v) (fileOffsets b) ≡ fileOffsets b = take-all (suc v) (fileOffsets b) (omega (arith, length-offsets 0 (fileRows b))) in
     let more : suc v ≡ vertexCountOf b + 1 = omega arith in
     let d : drop (suc v) (set o 0 0) ≡ drop (vertexCountOf b + 1) o = drop-set-lt (suc v) o 0 0 (omega arith) ∙ ap (λ (z : ℕ). drop z o) more in
     let z : length (fileNeighbors b) ≡ 2 * linkCountOf b = length-entries b g in
     record {
-      offsets-are = w .offsets-so-far ∙ rw (f, d);
+      offsets-are = front-end (fileOffsets b) (set o 0 0) o′ (suc v) (w .offsets-so-far) (omega (arith, length-offsets 0 (fileRows b))) ∙ rw d;
       neighbors-are =
           w .neighbors-so-far .is
           ∙ ap (λ (l : List (List ℕ)). sets s 0 (packed l)) t

@@ -1,13 +1,14 @@
--- Rule 9: the link file. One definition of the format serves the check and the reader. Assumes nothing.
+-- Rule 9: the link file, with document 02's workloads. One definition of the format serves the check and the reader. Assumes nothing.
 use Prim.Native.Nat.{ℕ, _+_, _-_, _*_, _≤_}
 use mathlib.Core.Path.{_≡_}
-use mathlib.Core.Bool.{Bool, _&&_, _||_, cond}
+use mathlib.Core.Bool.{Bool, false, _&&_, _||_, cond}
 use mathlib.Core.List.{List, [], _∷_, _++_, map}
-use lib.ListN.{length, drop}
+use lib.ListN.{length, drop, replicate}
 use lib.Seq.{sets}
 use lib.Dec.{ltb, eqb}
 use Rattle.links.specs.Lists.{at, filter, any, all, range, concatMap, above}
 use Rattle.links.specs.Graph.{rowsOf, offsetsFrom, packed, SoundLists}
+use Rattle.links.specs.Workloads.{badWorkloads, workloadsCause}
 use Rattle.multilevel.specs.declared.file.Sizes.{Sizes}
 use Rattle.multilevel.specs.declared.file.Read.{Read}
 use Rattle.multilevel.specs.declared.file.Read.the-variants.{Site, Refused}
@@ -60,17 +61,29 @@ goodLink b i = ltb (lowEnd b i) (highEnd b i) && ltb (highEnd b i) (vertexCountO
 unfoldable pub goodLinks : List ℕ → Bool
 goodLinks b = all (goodLink b) (range 0 (linkCountOf b))
 
--- "under 28 bytes 10; program limits 3; length not 28 + 8e, or a wrong link, 10"
+-- "A file of length 28 + 8e means all 1; one of 28 + 8e + 4n carries them; any other length is still malformed."
+unfoldable pub goodLength : List ℕ → Bool
+goodLength b = eqb (length b) (28 + 8 * linkCountOf b) || eqb (length b) (28 + 8 * linkCountOf b + 4 * vertexCountOf b)
+
+-- "n u32 workloads after the two arrays", or "all 1"
+unfoldable pub fileWorkloads : List ℕ → List ℕ
+fileWorkloads b =
+    cond (eqb (length b) (28 + 8 * linkCountOf b))
+    (replicate (vertexCountOf b) 1)
+    (map (number b) (range (7 + 2 * linkCountOf b) (vertexCountOf b)))
+
+-- "under 28 bytes 10; program limits 3"; any other length than those two, "or a wrong link, 10"; then 13, "in a file after the link tests of 10"
 unfoldable pub fileCause : List ℕ → ℕ
 fileCause b =
     cond (ltb (length b) 28) 10
-    (cond (overProgramLimits b) 3 (cond (eqb (length b) (28 + 8 * linkCountOf b) && goodLinks b) 0 10))
+    (cond (overProgramLimits b) 3
+    (cond (goodLength b && goodLinks b) (workloadsCause (vertexCountOf b) (fileWorkloads b)) 10))
 
--- "the reader then 5 (n + 1 offsets, 2e neighbours)"
-unfoldable pub readerCause : List ℕ → ℕ → ℕ → ℕ
-readerCause b offsetsLength neighborsLength =
+-- "the reader then 5 (n + 1 offsets, 2e neighbours)", and "its 5 counts them too": n workloads
+unfoldable pub readerCause : List ℕ → ℕ → ℕ → ℕ → ℕ
+readerCause b offsetsLength neighborsLength workloadsLength =
     cond (eqb (fileCause b) 0)
-    (cond (ltb offsetsLength (vertexCountOf b + 1) || ltb neighborsLength (2 * linkCountOf b)) 5 0)
+    (cond (ltb offsetsLength (vertexCountOf b + 1) || ltb neighborsLength (2 * linkCountOf b) || ltb workloadsLength (vertexCountOf b)) 5 0)
     (fileCause b)
 
 -- ---- the lists of an accepted file
@@ -114,31 +127,39 @@ abbrev pub readSizes : Read → Sizes
 readSizes (Site s) = s
 readSizes (Refused number) = zeroSizes
 
--- "the reader returns sizes and options, and writes the offsets and the rising neighbour lists, nothing beyond"; a refusal leaves "everything" as it
--- was
-pub record FileRead (b offsets neighbors offsets′ neighbors′ : List ℕ) (r : Read) : Type 0 where
+-- "the reader returns sizes and options, and writes the offsets and the rising neighbour lists, nothing beyond", and "n workloads for either
+-- length"; a refusal leaves "everything" as it was
+pub record FileRead (b offsets neighbors workloads offsets′ neighbors′ workloads′ : List ℕ) (r : Read) : Type 0 where
   pub answer
       : r
-      ≡ cond (eqb (readerCause b (length offsets) (length neighbors)) 0)
+      ≡ cond (eqb (readerCause b (length offsets) (length neighbors) (length workloads)) 0)
       (Site (sizesOf b))
-      (Refused (readerCause b (length offsets) (length neighbors)))
+      (Refused (readerCause b (length offsets) (length neighbors) (length workloads)))
   -- so are its number and its sizes, "zero sizes" with a refusal
-  pub number : readNumber r ≡ readerCause b (length offsets) (length neighbors)
-  pub sizes : readSizes r ≡ cond (eqb (readerCause b (length offsets) (length neighbors)) 0) (sizesOf b) zeroSizes
+  pub number : readNumber r ≡ readerCause b (length offsets) (length neighbors) (length workloads)
+  pub sizes : readSizes r ≡ cond (eqb (readerCause b (length offsets) (length neighbors) (length workloads)) 0) (sizesOf b) zeroSizes
   pub refused
-      : (readerCause b (length offsets) (length neighbors) ≡ 0 → ⊥) → (offsets′ ≡ offsets) × (neighbors′ ≡ neighbors)
+      : (readerCause b (length offsets) (length neighbors) (length workloads) ≡ 0 → ⊥)
+      → (offsets′ ≡ offsets) × (neighbors′ ≡ neighbors) × (workloads′ ≡ workloads)
   pub offsets-written
-      : readerCause b (length offsets) (length neighbors) ≡ 0 → offsets′ ≡ fileOffsets b ++ drop (vertexCountOf b + 1) offsets
+      : readerCause b (length offsets) (length neighbors) (length workloads) ≡ 0
+      → offsets′ ≡ fileOffsets b ++ drop (vertexCountOf b + 1) offsets
   pub neighbors-written
-      : readerCause b (length offsets) (length neighbors) ≡ 0 → neighbors′ ≡ fileNeighbors b ++ drop (2 * linkCountOf b) neighbors
+      : readerCause b (length offsets) (length neighbors) (length workloads) ≡ 0
+      → neighbors′ ≡ fileNeighbors b ++ drop (2 * linkCountOf b) neighbors
+  pub workloads-written
+      : readerCause b (length offsets) (length neighbors) (length workloads) ≡ 0
+      → workloads′ ≡ fileWorkloads b ++ drop (vertexCountOf b) workloads
   -- what it writes passes the list test, and is the file's rows
   pub sound : fileCause b ≡ 0 → SoundLists (fileOffsets b) (fileNeighbors b) × (rowsOf (fileOffsets b) (fileNeighbors b) ≡ fileRows b)
+  -- and the workloads pass theirs
+  pub workloads-pass : fileCause b ≡ 0 → badWorkloads (vertexCountOf b) (fileWorkloads b) ≡ false
 
--- a file that has as many bytes as its links ask for
+-- a file that has at least the bytes that its links ask for
 pub record Sized (b : List ℕ) (e : ℕ) : Type 0 where
   pub links : e ≡ linkCountOf b
   pub few : e ≤ 128
-  pub bytes : length b ≡ 28 + 8 * e
+  pub bytes : 28 + 8 * e ≤ length b
 
 -- ---- a row as the reader makes it: link by link, v's other end
 

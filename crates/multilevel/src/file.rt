@@ -1,11 +1,14 @@
-// Rule 9: the link file, its check and its reader.
+// Rule 9: the link file with its workloads, its check and its reader.
 ghost use mathlib.Core.Path.{_≡_};
 ghost use mathlib.Core.Bool.{true, false};
 ghost use Prim.Native.Nat.{_+_, _-_, _*_, _≤_, _<_};
-ghost use lib.ListN.{length};
-ghost use Rattle.links.specs.Lists.{at};
-ghost use Rattle.multilevel.specs.File.{number, sizesOf, vertexCountOf, lowEnd, highEnd, overProgramLimits, linkBefore, goodLink, goodLinks, fileCause, fileRow, otherEnd, readNumber, FileRead, Sized, Written, RowsWritten};
+ghost use mathlib.Core.List.{_++_};
+ghost use lib.ListN.{length, drop};
+ghost use Rattle.links.specs.Lists.{at, any};
+ghost use Rattle.links.specs.Workloads.{badWorkload};
+ghost use Rattle.multilevel.specs.File.{number, sizesOf, vertexCountOf, lowEnd, highEnd, overProgramLimits, linkBefore, goodLink, goodLinks, goodLength, fileWorkloads, fileCause, readerCause, fileRow, otherEnd, readNumber, FileRead, Sized, Written, RowsWritten};
 use links::AbtmMultilevelOptions;
+use links::bad_workload;
 use links::index;
 use links::wide;
 
@@ -148,8 +151,46 @@ fn links_good(b: &[u8], e: usize, vertices: u32) -> bool
     true
 }
 
-// The file check: 0, or 10, or 3.
-// Rules out: a file with one byte more; links in rising order of their low ends alone.
+// Whether the file has one of its two lengths.
+fn length_good(b: &[u8]) -> bool
+    requires { ⌜ 28 ≤ length (now b) ⌝ }
+    ensures { λ r. ⌜ r ≡ goodLength (now (b .entry)) ⌝ }
+{
+    let shorter = 28 + 8 * index(number_at(b, 1));
+    if b.len() == shorter {
+        return true;
+    }
+    b.len() == shorter + 4 * index(number_at(b, 0))
+}
+
+// v's workload: 1 in a file that carries none.
+fn file_workload(b: &[u8], e: usize, v: usize) -> u32
+    requires { ⌜ Sized (now b) e × (goodLength (now b) ≡ true) × (v < vertexCountOf (now b)) ⌝ }
+    ensures { λ r. ⌜ r ≡ at (fileWorkloads (now (b .entry))) v ⌝ }
+{
+    if b.len() == 28 + 8 * e {
+        return 1;
+    }
+    number_at(b, 7 + 2 * e + v)
+}
+
+// Whether one of the n workloads is 0 or above 10,000.
+fn workload_bad(b: &[u8], e: usize, n: usize) -> bool
+    requires { ⌜ Sized (now b) e × (goodLength (now b) ≡ true) × (n ≡ vertexCountOf (now b)) ⌝ }
+    ensures { λ r. ⌜ r ≡ any badWorkload (fileWorkloads (now (b .entry))) ⌝ }
+{
+    let mut v: usize = 0;
+    while v < n {
+        if bad_workload(file_workload(b, e, v)) {
+            return true;
+        }
+        v += 1;
+    }
+    false
+}
+
+// The file check: 0, or 10, 3 or 13.
+// Rules out: a file with one workload too few; links in rising order of their low ends alone.
 pub fn link_file_cause(b: &[u8]) -> u32
     ensures { λ r. ⌜ r ≡ fileCause (now (b .entry)) ⌝ }
 {
@@ -159,14 +200,39 @@ pub fn link_file_cause(b: &[u8]) -> u32
     if over_limits(b) {
         return 3;
     }
-    let e = index(number_at(b, 1));
-    if b.len() != 28 + 8 * e {
+    if !length_good(b) {
         return 10;
     }
-    if links_good(b, e, number_at(b, 0)) {
-        return 0;
+    let n = number_at(b, 0);
+    let e = index(number_at(b, 1));
+    if !links_good(b, e, n) {
+        return 10;
     }
-    10
+    if workload_bad(b, e, index(n)) {
+        return 13;
+    }
+    0
+}
+
+// The file's refusal; or 5 where an output of these lengths is too short; or 0.
+fn reader_cause(b: &[u8], offsets: usize, neighbors: usize, workloads: usize) -> u32
+    ensures { λ r. ⌜ r ≡ readerCause (now (b .entry)) offsets neighbors workloads ⌝ }
+{
+    let cause = link_file_cause(b);
+    if cause != 0 {
+        return cause;
+    }
+    let n = index(number_at(b, 0));
+    if offsets < n + 1 {
+        return 5;
+    }
+    if neighbors < 2 * index(number_at(b, 1)) {
+        return 5;
+    }
+    if workloads < n {
+        return 5;
+    }
+    0
 }
 
 // v's other end at link i, if v is an end of it, goes to `at`: the next place.
@@ -215,23 +281,34 @@ fn write_rows(b: &[u8], e: usize, n: usize, offsets: &mut [u32], neighbors: &mut
     }
 }
 
-// The reader: the sizes and options, and n + 1 offsets and 2e neighbors written; or 10, 3 or 5 and nothing written.
-// Rules out: each link written from one end only; an output changed by a refusal.
-pub fn read_link_file(b: &[u8], offsets: &mut [u32], neighbors: &mut [u32]) -> Read
-    ensures { λ r. ⌜ FileRead (now (b .entry)) (now (offsets .entry)) (now (neighbors .entry)) (now (offsets .exit)) (now (neighbors .exit)) r ⌝ }
+fn write_workloads(b: &[u8], e: usize, n: usize, workloads: &mut [u32])
+    requires { ⌜ Sized (now b) e × (goodLength (now b) ≡ true) × (n ≡ vertexCountOf (now b)) × (n ≤ length (now workloads)) ⌝ }
+    ensures { λ _. ⌜ now (workloads .exit) ≡ fileWorkloads (now (b .entry)) ++ drop (vertexCountOf (now (b .entry))) (now (workloads .entry)) ⌝ }
 {
-    let cause = link_file_cause(b);
+    let mut v: usize = 0;
+    while v < n {
+        workloads[v] = file_workload(b, e, v);
+        v += 1;
+    }
+}
+
+// The reader: the sizes and options, and n + 1 offsets, 2e neighbors and n workloads written; or 10, 3, 13 or 5 and nothing written.
+// Rules out: a carried workload written as 1; an output changed by a refusal.
+pub fn read_link_file(
+    b: &[u8],
+    offsets: &mut [u32],
+    neighbors: &mut [u32],
+    workloads: &mut [u32],
+) -> Read
+    ensures { λ r. ⌜ FileRead (now (b .entry)) (now (offsets .entry)) (now (neighbors .entry)) (now (workloads .entry)) (now (offsets .exit)) (now (neighbors .exit)) (now (workloads .exit)) r ⌝ }
+{
+    let cause = reader_cause(b, offsets.len(), neighbors.len(), workloads.len());
     if cause != 0 {
         return Read::Refused(cause);
     }
     let n = index(number_at(b, 0));
     let e = index(number_at(b, 1));
-    if offsets.len() < n + 1 {
-        return Read::Refused(5);
-    }
-    if neighbors.len() < 2 * e {
-        return Read::Refused(5);
-    }
     write_rows(b, e, n, offsets, neighbors);
+    write_workloads(b, e, n, workloads);
     Read::Site(sizes_of(b))
 }

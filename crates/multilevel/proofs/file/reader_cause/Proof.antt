@@ -1,0 +1,85 @@
+-- The file's refusal first, then the three lengths. Assumes nothing.
+use mathlib.Core.Path.{sym, _∙_}
+use native.Mathlib.Omega.{arith}
+use Rattle.multilevel.proofs.FileLaws.{accepted}
+use Rattle.multilevel.proofs.FileReadLaws.{cause-file, cause-offsets, cause-neighbors, cause-workloads, cause-none}
+use borrow.Author.Needs.{needs}
+use Rattle.multilevel.proofs.file.reader_cause.Statement.{statement}
+use Rattle.multilevel.proofs.file.reader_cause.Tie as tie
+
+link-file-cause-requires : tie.Need-link-file-cause-requires
+link-file-cause-requires c κs = search needs
+
+returns : tie.Need-returns
+returns c =
+    let a = c .before .before .before .args in
+    cause-file (a .b .now) (a .offsets) (a .neighbors) (a .workloads) _ (c .before .link-file-cause .ensures) (c .if1 .taken)
+
+number-at-requires : tie.Need-number-at-requires
+number-at-requires c κs = omega (arith, accepted (c .before .before .before .args .b .now) (sym (c .before .link-file-cause .ensures) ∙ c .if1 .left) .long)
+
+index-requires : tie.Need-index-requires
+index-requires c κs = search needs
+
+add-if2 : tie.Need-add-if2
+add-if2 c = search needs
+
+returns-2 : tie.Need-returns-2
+returns-2 c =
+    let a = c .before .before .before .before .before .before .args in
+    let z = sym (c .before .before .before .before .link-file-cause .ensures) ∙ c .before .before .before .if1 .left in
+    cause-offsets (a .b .now) (a .offsets) (a .neighbors) (a .workloads) z (omega (arith, c .if2 .taken, c .before .index .ensures, c .before .before .number-at .ensures))
+
+number-at-requires-2 : tie.Need-number-at-requires-2
+number-at-requires-2 c κs = omega (arith, accepted (c .before .before .before .before .before .before .args .b .now) (sym (c .before .before .before .before .link-file-cause .ensures) ∙ c .before .before .before .if1 .left) .long)
+
+index-requires-2 : tie.Need-index-requires-2
+index-requires-2 c κs = search needs
+
+mul-if3 : tie.Need-mul-if3
+mul-if3 c = search needs
+
+returns-3 : tie.Need-returns-3
+returns-3 c =
+    let a = c .before .before .before .before .before .before .before .before .before .args in
+    let z = sym (c .before .before .before .before .before .before .before .link-file-cause .ensures) ∙ c .before .before .before .before .before .before .if1 .left in
+    cause-neighbors (a .b .now) (a .offsets) (a .neighbors) (a .workloads) z
+    (omega (arith, c .before .before .before .if2 .left, c .before .before .before .before .index .ensures, c .before .before .before .before .before .number-at .ensures))
+    (omega (arith, c .if3 .taken, c .before .index2 .ensures, c .before .before .number-at2 .ensures))
+
+returns-4 : tie.Need-returns-4
+returns-4 c =
+    let a = c .before .before .before .before .before .before .before .before .before .before .args in
+    let z = sym (c .before .before .before .before .before .before .before .before .link-file-cause .ensures) ∙ c .before .before .before .before .before .before .before .if1 .left in
+    let n = c .before .before .before .before .before .index .ensures ∙ c .before .before .before .before .before .before .number-at .ensures in
+    cause-workloads (a .b .now) (a .offsets) (a .neighbors) (a .workloads) z
+    (omega (arith, c .before .before .before .before .if2 .left, n))
+    (omega (arith, c .before .if3 .left, c .before .before .index2 .ensures, c .before .before .before .number-at2 .ensures))
+    (omega (arith, c .if4 .taken, n))
+
+returns-5 : tie.Need-returns-5
+returns-5 c =
+    let a = c .before .before .before .before .before .before .before .before .before .before .args in
+    let z = sym (c .before .before .before .before .before .before .before .before .link-file-cause .ensures) ∙ c .before .before .before .before .before .before .before .if1 .left in
+    let n = c .before .before .before .before .before .index .ensures ∙ c .before .before .before .before .before .before .number-at .ensures in
+    cause-none (a .b .now) (a .offsets) (a .neighbors) (a .workloads) z
+    (omega (arith, c .before .before .before .before .if2 .left, n))
+    (omega (arith, c .before .if3 .left, c .before .before .index2 .ensures, c .before .before .before .number-at2 .ensures))
+    (omega (arith, c .if4 .left, n))
+
+pub reader-cause-spec : {M : Type 1} → statement M
+reader-cause-spec =
+    tie.close
+    (tie.spec
+    link-file-cause-requires
+    returns
+    number-at-requires
+    index-requires
+    add-if2
+    returns-2
+    number-at-requires-2
+    index-requires-2
+    mul-if3
+    returns-3
+    returns-4
+    returns-5)
