@@ -1,22 +1,19 @@
 -- Laws of a call: its division on the work that it needs, the rules that it goes by, and its finest level. Assumes nothing.
 use Prim.Native.Nat.{ℕ, _+_, _*_}
-use mathlib.Core.Path.{_≡_, refl, sym, ap, _∙_}
+use mathlib.Core.Path.{_≡_, refl, ap, _∙_}
 use mathlib.Core.Bool.{false}
 use mathlib.Core.List.{List}
 use native.Mathlib.Nat.{add-mul}
 use native.Mathlib.Omega.{arith}
-use lib.ListN.{length, replicate}
+use lib.ListN.{length}
 use lib.Dec.{ltb}
 use borrow.Author.Tests.{eq-eqb, le-ltb}
-use Rattle.links.specs.Lists.{sum}
 use Rattle.links.specs.Loads.{balance}
 use Rattle.links.specs.Graph.{vertexCount}
-use Rattle.links.proofs.ListLaws.{sum-ones}
-use Rattle.links.proofs.RowLaws.{length-rows}
 use Rattle.stages.specs.Level.{rowsAt, weightsAt, ownersAt, balanceIn}
 use Rattle.multilevel.specs.declared.driver.Answer.{Answer}
 use Rattle.multilevel.specs.Causes.{Call, workNeed, needOf, tooShort, earlyCause}
-use Rattle.multilevel.specs.Division.{division, finestWeights}
+use Rattle.multilevel.specs.Division.{division}
 use Rattle.multilevel.specs.Demand3.{siteRows, balanceOf, keptSteps}
 use Rattle.multilevel.specs.Room.{unitOf, SiteFits, SiteLaid}
 use Rattle.multilevel.specs.Driver.{Told}
@@ -33,6 +30,7 @@ withWork c size =
     record {
       offsets = c .offsets;
       neighbors = c .neighbors;
+      workloads = c .workloads;
       ranks = c .ranks;
       options = c .options;
       ownersLength = c .ownersLength;
@@ -61,10 +59,7 @@ module _ (c : Call) (w : List ℕ) (d : Divisible c w) where
   -- the balance of the rules is the division's
   pub same-balance : balanceIn (rulesFor c .limits) ≡ balanceOf c
   unfolding balance
-  same-balance = rw (ones)
-    where
-      ones : sum (finestWeights (siteRows c)) ≡ vertexCount (c .offsets)
-      ones = sum-ones (length (siteRows c)) ∙ length-rows (c .offsets) (c .neighbors)
+  same-balance = refl
 
   -- the work slice holds the levels' rooms, five more, and the lists of candidates
   pub work-parts : length w ≡ rulesFor c .scratch + 5 * unitOf (vertexCount (c .offsets)) (length (c .neighbors)) + 24 * c .ranks * c .ranks
@@ -77,21 +72,22 @@ module _ (c : Call) (w : List ℕ) (d : Divisible c w) where
       six : (l : ℕ) → l + 6 ≡ l + 1 + 5
       six l = omega arith
 
-  pub site-fits : SiteFits w (siteLevel c) (c .offsets) (c .neighbors)
+  pub site-fits : SiteFits w (siteLevel c) (c .offsets) (c .neighbors) (c .workloads)
   site-fits =
       let t = tested c (d .passed) in
       record {
         laid = laid-by (length w) (laid-at (vertexCount (c .offsets)) (length (c .neighbors)) 0) (omega (arith, work-parts));
         offsets-sized = omega (arith, t .lists .some);
         neighbors-sized = refl;
+        workloads-sized = t .workloads .sized;
       }
 
-  module _ (w₁ : List ℕ) (s : SiteLaid w w₁ (siteLevel c) (c .offsets) (c .neighbors)) where
+  module _ (w₁ : List ℕ) (s : SiteLaid w w₁ (siteLevel c) (c .offsets) (c .neighbors) (c .workloads)) where
     rows-laid : rowsAt w₁ (siteLevel c) ≡ siteRows c
     rows-laid = rw (s .offsets-laid, s .neighbors-laid)
 
-    pub weights-laid : weightsAt w₁ (siteLevel c) ≡ finestWeights (siteRows c)
-    weights-laid = s .weights-laid ∙ ap (λ (x : ℕ). replicate x 1) (sym (length-rows (c .offsets) (c .neighbors)))
+    pub weights-laid : weightsAt w₁ (siteLevel c) ≡ c .workloads
+    weights-laid = s .weights-laid
 
     pub site-placed : Placed w₁ (siteLevel c) (rulesFor c) (c .options .«max_levels»)
     site-placed =
@@ -105,7 +101,7 @@ module _ (c : Call) (w : List ℕ) (d : Divisible c w) where
                 lists = rw (s .offsets-laid, s .neighbors-laid) (t .lists);
                 few = t .few-vertices;
                 short = t .few-entries;
-                light = rw (s .weights-laid) (omega (arith, sum-ones (vertexCount (c .offsets)), t .few-vertices));
+                light = rw (s .weights-laid) (omega (arith, t .workloads .light, t .few-vertices));
               };
           above = omega arith;
           room = omega (arith, work-parts, s .frame .same-length, t .enough-vertices);
@@ -117,5 +113,5 @@ module _ (c : Call) (w : List ℕ) (d : Divisible c w) where
     pub site-told
         : (w₂ : List ℕ) (a : Answer)
         → LevelSolved w₁ w₂ (siteLevel c) (rulesFor c) (c .options .«max_levels») a
-        → Told (balanceOf c) (c .options .«refinement_passes») (siteRows c) (finestWeights (siteRows c)) (keptSteps c) (c .options .«max_levels») (ownersAt w₂ (siteLevel c)) a
+        → Told (balanceOf c) (c .options .«refinement_passes») (siteRows c) (c .workloads) (keptSteps c) (c .options .«max_levels») (ownersAt w₂ (siteLevel c)) a
     site-told w₂ a k = rw (rows-laid, weights-laid, same-balance) at (k .told)

@@ -1,6 +1,6 @@
 -- Laws of the causes tested before the work: what each test that passes leaves, and the first that holds. Assumes nothing.
 use Prim.Native.Nat.{ℕ, _+_, _*_, _≤_}
-use mathlib.Core.Path.{_≡_, sym, _∙_}
+use mathlib.Core.Path.{_≡_}
 use mathlib.Core.Bool.{Bool, true, false, _||_}
 use native.Mathlib.Omega.{arith}
 use native.Mathlib.Nat.{mul-le-mul}
@@ -8,10 +8,12 @@ use lib.ListN.{length}
 use lib.Dec.{ltb, eqb}
 use borrow.Author.Tests.{eqb-false, ltb-false}
 use Rattle.links.specs.Graph.{vertexCount, badLists}
+use Rattle.links.specs.Workloads.{badWorkloads}
 use Rattle.links.specs.Options.{badOptions, optionsCause}
 use Rattle.links.specs.declared.options.AbtmMultilevelOptions.{AbtmMultilevelOptions}
 use Rattle.multilevel.specs.Causes.{Call, badCounts, overLimits, workNeed, Limited, firstOf, tooShort, earlyCause}
-use Rattle.links.proofs.ListLaws.{split, or-l, or-r}
+use Rattle.links.proofs.ListLaws.{or-l, or-r}
+use Rattle.links.proofs.CauseLaws.{cause-holds, cause-fails}
 
 -- ---- what cause 1 and cause 3 leave
 
@@ -58,13 +60,14 @@ limited n m k levels e =
 
 -- ---- what the calls of links answer, as tests
 
-pub options-bad : (o : AbtmMultilevelOptions) (r : ℕ) → r ≡ optionsCause o → (r ≡ 0 → ⊥) → badOptions o ≡ true
-unfolding optionsCause
-options-bad o r e f = split (badOptions o) (λ p. p) (λ p. absurd (f (e ∙ rw p)))
+module _ (o : AbtmMultilevelOptions) (r : ℕ) (e : r ≡ optionsCause o) where
+  pub options-bad : (r ≡ 0 → ⊥) → badOptions o ≡ true
+  unfolding optionsCause
+  options-bad f = cause-holds (badOptions o) 0 r e f
 
-pub options-fine : (o : AbtmMultilevelOptions) (r : ℕ) → r ≡ optionsCause o → r ≡ 0 → badOptions o ≡ false
-unfolding optionsCause
-options-fine o r e f = split (badOptions o) (λ p. let z : _≡_ {A = ℕ} 1 0 = rw p at (sym e ∙ f) in absurd (omega arith)) (λ p. p)
+  pub options-fine : r ≡ 0 → badOptions o ≡ false
+  unfolding optionsCause
+  options-fine f = cause-fails (badOptions o) 0 r e f
 
 -- ---- the tests on counts, as they are made
 
@@ -86,15 +89,16 @@ module _ {n n₁ k k₁ : ℕ} (e : n₁ ≡ n) (f : k₁ ≡ k) {b t : Bool} wh
 
 module _ (c : Call) where
   pub early-is
-      : (b1 b2 b3 b4 b5 : Bool)
+      : (b1 b2 b3 b4 b13 b5 : Bool)
       → badOptions (c .options) ≡ b1
       → badCounts (vertexCount (c .offsets)) (c .ranks) ≡ b2
       → overLimits (vertexCount (c .offsets)) (length (c .neighbors)) (c .ranks) (c .options .«max_levels») ≡ b3
       → badLists (c .offsets) (c .neighbors) ≡ b4
+      → badWorkloads (vertexCount (c .offsets)) (c .workloads) ≡ b13
       → tooShort c ≡ b5
-      → firstOf b1 b2 b3 b4 b5 ≡ earlyCause c
+      → firstOf b1 b2 b3 b4 b13 b5 ≡ earlyCause c
   unfolding earlyCause
-  early-is b1 b2 b3 b4 b5 e1 e2 e3 e4 e5 = rw (e1, e2, e3, e4, e5)
+  early-is b1 b2 b3 b4 b13 b5 e1 e2 e3 e4 e13 e5 = rw (e1, e2, e3, e4, e13, e5)
 
 -- ---- the work that a division needs is small
 

@@ -63,16 +63,16 @@ moves-ranked b rows ws passes o some-ranks h =
 
 -- so do swaps
 pub swaps-ranked
-    : (rows : List (List ℕ)) (k : ℕ)
+    : (cap : ℕ) (rows : List (List ℕ)) (weights : List ℕ) (k : ℕ)
     → 1 ≤ k
     → (ss : List Step) (o : List ℕ)
-    → Along (Swapped rows) after o ss
+    → Along (Swapped cap rows weights) after o ss
     → All (λ x. x < k) o
     → All (λ x. x < k) (foldl after o ss)
-swaps-ranked rows k some-ranks ss o a h =
-    steps-ranked k some-ranks ss o (along-to (Swapped rows) (λ o s. Into k s) after brings ss o a) h
+swaps-ranked cap rows weights k some-ranks ss o a h =
+    steps-ranked k some-ranks ss o (along-to (Swapped cap rows weights) (λ o s. Into k s) after brings ss o a) h
   where
-    brings : (o : List ℕ) (s : Step) → Swapped rows o s → Into k s
+    brings : (o : List ℕ) (s : Step) → Swapped cap rows weights o s → Into k s
     brings o (move v r) e = absurd e
     brings o (swap u v) e = tt
 

@@ -15,13 +15,14 @@ use borrow.Author.Tests.{eq-eqb, ne-eqb, eqb-true, ltb-true, ltb-false, le-ltb, 
 use Rattle.links.specs.Lists.{at, unassigned, any, filter, foldl, best, elem, All}
 use Rattle.links.specs.Loads.{Balance, balance}
 use Rattle.links.specs.Graph.{row, vertexCount, badLists, Sound}
+use Rattle.links.specs.Workloads.{badWorkloads}
 use Rattle.links.specs.Options.{badOptions, stopSize}
 use Rattle.stages.specs.Coarsen.{closer, partner, Pairing, grouped, match, unmatched, pairing, byDegree, Coarse, coarsenOnce}
 use Rattle.stages.specs.Seeds.{farthestSeeds}
 use Rattle.stages.specs.Growth.{weightedMultisource, grown}
 use Rattle.stages.specs.Moves.{after, refineByCut}
 use Rattle.multilevel.specs.Causes.{Call, badCounts, overLimits, firstOf, tooShort, earlyCause}
-use Rattle.multilevel.specs.Division.{Trace, refused, coarsenings, coarsestRows, takeOver, swapPasses, refine, grow, solve, finestWeights, division}
+use Rattle.multilevel.specs.Division.{Trace, refused, coarsenings, coarsestRows, takeOver, swapPasses, refine, grow, solve, division}
 use Rattle.multilevel.specs.Demand3.{siteRows, balanceOf, passesOf, keptSteps}
 use Rattle.links.proofs.ListLaws.{split, all-in, none-filter}
 use Rattle.links.proofs.RowLaws.{length-rows, by-place}
@@ -277,13 +278,14 @@ module _ (b : Balance) (passes : ℕ) where
       (λ p. absurd (refine-7 swapping rows ws (c .group) (takeOver (c .group) t) (rw p at e)))
       (λ p. solve-7 cs 0 (c .rows) (c .weights) (rw p at e))
 
-first-7 : (x y z w v : Bool) → _≢_ {A = ℕ} (firstOf x y z w v) 7
-first-7 true y z w v e = omega arith
-first-7 false true z w v e = omega arith
-first-7 false false true w v e = omega arith
-first-7 false false false true v e = omega arith
-first-7 false false false false true e = omega arith
-first-7 false false false false false e = omega arith
+first-7 : (x y z w u v : Bool) → _≢_ {A = ℕ} (firstOf x y z w u v) 7
+first-7 true y z w u v e = omega arith
+first-7 false true z w u v e = omega arith
+first-7 false false true w u v e = omega arith
+first-7 false false false true u v e = omega arith
+first-7 false false false false true v e = omega arith
+first-7 false false false false false true e = omega arith
+first-7 false false false false false false e = omega arith
 
 early-7 : (c : Call) → earlyCause c ≢ 7
 unfolding earlyCause
@@ -294,6 +296,7 @@ early-7 c =
     (badCounts n (c .ranks))
     (overLimits n (length (c .neighbors)) (c .ranks) (c .options .«max_levels»))
     (badLists (c .offsets) (c .neighbors))
+    (badWorkloads n (c .workloads))
     (tooShort c)
 
 few-groups : (c : Call) → division c .outcome ≡ refused 7 → (earlyCause c ≡ 0) × (length (coarsestRows (siteRows c) (keptSteps c)) < c .ranks)
@@ -302,7 +305,7 @@ few-groups c e = ⊎-elim
     (λ z. absurd (early-7 c z))
     (λ z.
     let rows = siteRows c in
-    (z .0, solve-7 (balanceOf c) (passesOf c) (keptSteps c) (swapPasses (passesOf c)) rows (finestWeights rows) (z .1)))
+    (z .0, solve-7 (balanceOf c) (passesOf c) (keptSteps c) (swapPasses (passesOf c)) rows (c .workloads) (z .1)))
     (refused-by c 7 e)
 
 -- 7 needs coarse_vertices_per_rank = 1: with more, the steps stop at twice the ranks or above
@@ -320,6 +323,6 @@ seven-needs-one c e =
     (λ p.
     let z = ltb-false d 2 p in
     let twice : 2 * k ≤ k * d = subst (λ (x : ℕ). x ≤ k * d) (mul-comm k 2) (mul-le-mul {n₂ = k} {m₂ = d} (omega arith) z) in
-    let many = coarsest-many k (c .options .«max_levels») (stopSize (c .options) k) rows (finestWeights rows)
-    (omega (arith, g .few-ranks)) (omega (arith, g .enough-vertices)) (g .lists .sound) (omega (arith, g .few-vertices)) (length-replicate (length rows) 1) in
+    let many = coarsest-many k (c .options .«max_levels») (stopSize (c .options) k) rows (c .workloads)
+    (omega (arith, g .few-ranks)) (omega (arith, g .enough-vertices)) (g .lists .sound) (omega (arith, g .few-vertices)) (g .workloads .sized ∙ sym n) in
     absurd (omega (arith, f .1)))

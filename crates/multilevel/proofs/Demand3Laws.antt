@@ -6,10 +6,10 @@ use mathlib.Core.Bool.{Bool, true, false, cond}
 use mathlib.Core.List.{List, [], _∷_, _++_, nil≢cons}
 use native.Mathlib.Nat.{div-mul-le-self, le-div-iff-mul-le}
 use native.Mathlib.Omega.{arith}
-use lib.ListN.{length, length-replicate}
+use lib.ListN.{length, replicate}
 use lib.Dec.{ltb, eqb}
 use borrow.Author.Tests.{ne-eqb, eqb-true, eqb-false, le-ltb}
-use Rattle.links.specs.Lists.{unassigned, any, range, sum, All}
+use Rattle.links.specs.Lists.{unassigned, any, foldl, range, sum, All}
 use Rattle.links.specs.Loads.{saturating, share, loadCap, Balance, balance}
 use Rattle.links.specs.Graph.{vertexCount, load, owned}
 use Rattle.links.specs.Options.{stopSize}
@@ -18,13 +18,13 @@ use Rattle.stages.specs.Coarsen.{Coarse}
 use Rattle.stages.specs.Growth.{Turn, Growth, grown}
 use Rattle.stages.specs.Moves.{after}
 use Rattle.multilevel.specs.Causes.{Call, earlyCause}
-use Rattle.multilevel.specs.Division.{Outcome, refused, divided, Level, Run, Trace, noGrowth, swapPasses, solve, stepsOf, statsOf, abtmMultilevelPartition, finestWeights, division}
+use Rattle.multilevel.specs.Division.{Outcome, refused, divided, Level, Run, Trace, noGrowth, swapPasses, solve, stepsOf, statsOf, abtmMultilevelPartition, division}
 use Rattle.multilevel.specs.Demand3.{siteRows, balanceOf, passesOf, keptSteps, ladder, growthOn, swapsDue, moved, FairTurn, FairLevel, FairShares, Early, WithGrowth, WithoutGrowth, Demand3}
 use Rattle.links.proofs.ListLaws.{split, all-at, sum-ones}
 use Rattle.links.proofs.RowLaws.{length-rows}
 use Rattle.stages.proofs.StepLaws.{foldl-append, length-steps}
 use Rattle.stages.proofs.GrowthLaws.{allPass}
-use Rattle.stages.proofs.LoadLaws.{load-owned, swaps-owned}
+use Rattle.stages.proofs.LoadLaws.{load-owned, swaps-within, swaps-owned}
 use Rattle.stages.proofs.RankLaws.{checked-ranked}
 use Rattle.multilevel.proofs.CheckLaws.{swaps-ranked}
 use Rattle.multilevel.proofs.DivisionLaws.{Tested, tested, early-number, early-some, early-8, none-empty, chained, growthOn-fair, growthOn-last, first-at, linked-at, Late, Grew, grew, not-yet, due, due-at, Done, Solved, solve-solved}
@@ -42,20 +42,17 @@ cap-share total k t h j =
     let product = total * (1000 + t) in
     rw (a, b) (div-mono (saturating product) product (1000 * k) (omega arith) (omega arith))
 
-module _ (b : Balance) (rows : List (List ℕ)) (swapping : ℕ) (cs : List Coarse) (t : Trace) (d : Done b swapping rows (finestWeights rows) cs t) where
+module _ (b : Balance) (rows : List (List ℕ)) (ws : List ℕ) (swapping : ℕ) (cs : List Coarse) (t : Trace) (d : Done b swapping rows ws cs t) where
+  owners-end : t .owners ≡ foldl after (moved (d .last)) (d .last .swaps)
+  owners-end = let l = d .last in d .owners-are ∙ foldl-append after (l .moves) (l .swaps) (l .start)
+
   -- swaps leave the numbers owned as the moves left them
   same-owned : (r : ℕ) → owned (t .owners) r ≡ owned (moved (d .last)) r
-  same-owned r =
-      let l = d .last in
-      ap (λ (o : List ℕ). owned o r) (d .owners-are ∙ foldl-append after (l .moves) (l .swaps) (l .start))
-      ∙ swaps-owned rows r (l .swaps) (moved l) (d .sized) (d .swapped)
+  same-owned r = ap (λ (o : List ℕ). owned o r) owners-end ∙ swaps-owned (b .cap) rows ws r (d .last .swaps) (moved (d .last)) (d .sized) (d .swapped)
 
-  within-cap : (r : ℕ) → r < b .ranks → owned (t .owners) r ≤ b .cap
-  within-cap r h =
-      let o = moved (d .last) in
-      let w : load (finestWeights rows) o r ≤ b .cap = d .within r h in
-      let u : load (finestWeights rows) o r ≡ owned o r = rw (d .sized) at (load-owned o r) in
-      omega (arith, same-owned r)
+  within-cap : length ws ≡ length rows → (r : ℕ) → r < b .ranks → load ws (t .owners) r ≤ b .cap
+  within-cap n r h =
+      rw owners-end (swaps-within (b .cap) rows ws r (d .last .swaps) (moved (d .last)) (d .sized) n (d .swapped) (d .within r h))
 
   size-owners : length (t .owners) ≡ length rows
   size-owners =
@@ -66,17 +63,17 @@ module _ (b : Balance) (rows : List (List ℕ)) (swapping : ℕ) (cs : List Coar
   ranked-owners some-ranks =
       let l = d .last in
       rw (d .owners-are ∙ foldl-append after (l .moves) (l .swaps) (l .start))
-      (swaps-ranked rows (b .ranks) some-ranks (l .swaps) (moved l) (d .swapped) (checked-ranked (b .ranks) (moved l) (d .checked)))
+      (swaps-ranked (b .cap) rows ws (b .ranks) some-ranks (l .swaps) (moved l) (d .swapped) (checked-ranked (b .ranks) (moved l) (d .checked)))
 
 -- ---- a call
 
 abbrev pub trace : Call → Trace
 trace c =
     let rows = siteRows c in
-    solve (balanceOf c) (passesOf c) (swapPasses (passesOf c)) rows (finestWeights rows) (keptSteps c)
+    solve (balanceOf c) (passesOf c) (swapPasses (passesOf c)) rows (c .workloads) (keptSteps c)
 
 abbrev Ended : Call → Trace → Type 0
-Ended c t = Solved (balanceOf c) (passesOf c) (swapPasses (passesOf c)) (siteRows c) (finestWeights (siteRows c)) (keptSteps c) t
+Ended c t = Solved (balanceOf c) (passesOf c) (swapPasses (passesOf c)) (siteRows c) (c .workloads) (keptSteps c) t
 
 few-ranks : (c : Call) → Tested c → balanceOf c .ranks < unassigned
 unfolding balance
@@ -87,9 +84,9 @@ unfolding balance
 solved c g =
     let rows = siteRows c in
     let few : length rows ≤ 16384 = omega (arith, length-rows (c .offsets) (c .neighbors), g .few-vertices) in
-    let weighed : length (finestWeights rows) ≡ length rows = length-replicate (length rows) 1 in
-    let chain = chained (c .options .«max_levels») (stopSize (c .options) (c .ranks)) rows (finestWeights rows) (g .lists .sound) (omega arith) weighed in
-    solve-solved (balanceOf c) (passesOf c) (g .some-ranks) (g .few-ranks) (keptSteps c) (swapPasses (passesOf c)) rows (finestWeights rows)
+    let weighed : length (c .workloads) ≡ length rows = g .workloads .sized ∙ sym (length-rows (c .offsets) (c .neighbors)) in
+    let chain = chained (c .options .«max_levels») (stopSize (c .options) (c .ranks)) rows (c .workloads) (g .lists .sound) (omega arith) weighed in
+    solve-solved (balanceOf c) (passesOf c) (g .some-ranks) (g .few-ranks) (keptSteps c) (swapPasses (passesOf c)) rows (c .workloads)
     (g .lists .sound) few chain
 
 divided-of
@@ -132,14 +129,19 @@ shares-of c g t sol owners s e =
     let sw = swapPasses (passesOf c) in
     let a = divided-of (eqb (t .refusal) 0) (t .owners) owners s (statsOf rows k (keptSteps c) t) (t .refusal) e in
     let d = sol .done (eqb-true (t .refusal) 0 (a .0)) in
-    let fair-share : balanceOf c .cap ≤ vertexCount (c .offsets) * (1000 + per) / (1000 * k) =
-    subst (λ (x : ℕ). balanceOf c .cap ≤ x * (1000 + per) / (1000 * k)) (sum-ones (length rows) ∙ n)
-    (cap-share (sum (finestWeights rows)) k per (g .some-ranks) (g .tolerance)) in
+    let weighed : length (c .workloads) ≡ length rows = g .workloads .sized ∙ sym n in
+    let share : balanceOf c .cap ≤ sum (c .workloads) * (1000 + per) / (1000 * k) = cap-share (sum (c .workloads)) k per (g .some-ranks) (g .tolerance) in
+    let most : (r : ℕ) → r < k → load (c .workloads) (t .owners) r ≤ sum (c .workloads) * (1000 + per) / (1000 * k) =
+    λ r h. omega (arith, within-cap (balanceOf c) rows (c .workloads) sw (keptSteps c) t d weighed r h, share) in
+    let size : length (t .owners) ≡ vertexCount (c .offsets) = size-owners (balanceOf c) rows (c .workloads) sw (keptSteps c) t d ∙ n in
     rw (a .1, a .2) (record {
-      size = size-owners (balanceOf c) rows sw (keptSteps c) t d ∙ n;
-      ranked = ranked-owners (balanceOf c) rows sw (keptSteps c) t d (g .some-ranks);
-      least = λ r h. omega (arith, same-owned (balanceOf c) rows sw (keptSteps c) t d r, none-empty k (moved (d .last)) (d .checked) r h);
-      most = λ r h. omega (arith, within-cap (balanceOf c) rows sw (keptSteps c) t d r h, fair-share);
+      size = size;
+      ranked = ranked-owners (balanceOf c) rows (c .workloads) sw (keptSteps c) t d (g .some-ranks);
+      least = λ r h. omega (arith, same-owned (balanceOf c) rows (c .workloads) sw (keptSteps c) t d r, none-empty k (moved (d .last)) (d .checked) r h);
+      most = most;
+      ones = λ all-1 r h.
+          let counted : load (replicate (vertexCount (c .offsets)) 1) (t .owners) r ≡ owned (t .owners) r = rw size at (load-owned (t .owners) r) in
+          rw (all-1, counted, sum-ones (vertexCount (c .offsets))) at (most r h);
       whole = d .whole;
       finest = (d .coarser, d .last, d .levels-are, d .rows-are, d .owners-are);
       moves = refl;
@@ -183,7 +185,7 @@ runOf c t = record { growth = t .growth; levels = t .levels; outcome = ends c t 
 -- whether it came to growth, and what its refusal is then
 growth-told
     : (c : Call) (t : Trace)
-    → Grew (c .ranks) (growthOn (balanceOf c) (siteRows c) (finestWeights (siteRows c)) (keptSteps c)) t
+    → Grew (c .ranks) (growthOn (balanceOf c) (siteRows c) (c .workloads) (keptSteps c)) t
     → WithGrowth c (runOf c t) ⊎ WithoutGrowth (runOf c t)
 growth-told c t (grew e late) =
     inl (record {
@@ -206,7 +208,7 @@ unfolding balance
 worked c g t sol =
     let b = balanceOf c in
     let rows = siteRows c in
-    let ws : List ℕ = finestWeights rows in
+    let ws : List ℕ = c .workloads in
     let cs = keptSteps c in
     record {
       shares = shares-of c g t sol;
@@ -235,7 +237,7 @@ untouched c number early =
       growth = inr (record { number = number; early = early; refusal = refl; growth = refl; levels = refl });
       turns = no-turns (balanceOf c .cap);
       lastRound = λ e. let z : number ≡ 8 = cc in absurd (early-8 number early z);
-      ladders = (ladder (siteRows c) (finestWeights (siteRows c)) (keptSteps c), refl);
+      ladders = (ladder (siteRows c) (c .workloads) (keptSteps c), refl);
       levels = λ coarser finer l e. absurd (no-levels coarser l finer e);
       swaps = λ coarser finer l e. absurd (no-levels coarser l finer e);
       coarsest = λ l finer e. absurd (nil≢cons e);

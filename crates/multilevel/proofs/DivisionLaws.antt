@@ -11,6 +11,7 @@ use borrow.Author.Tests.{eqb-true, eqb-false, ltb-true, ltb-false}
 use Rattle.links.specs.Lists.{at, unassigned, any, foldl, range, All}
 use Rattle.links.specs.Loads.{Balance}
 use Rattle.links.specs.Graph.{vertexCount, badLists, Sound, SoundLists, load, owned}
+use Rattle.links.specs.Workloads.{badWorkloads}
 use Rattle.links.specs.Owners.{emptyRank, fromOwners}
 use Rattle.links.specs.Options.{badOptions}
 use Rattle.stages.specs.Coarsen.{Coarse, coarsenOnce}
@@ -23,6 +24,7 @@ use Rattle.multilevel.specs.Division.{Level, Trace, noGrowth, stopped, c
 use Rattle.multilevel.specs.Demand3.{Lists, listsOf, ladder, growthOn, moved, ended, FairTurn, FairLevel, Early, Emptied}
 use Rattle.links.proofs.ListLaws.{split, or-l, or-r, all-append, all-in, elem-range, any-none}
 use Rattle.links.proofs.SoundLaws.{sound-lists}
+use Rattle.links.proofs.WorkloadLaws.{GoodWorkloads, good-workloads}
 use Rattle.stages.proofs.StepLaws.{Along, foldl-append, length-steps, Swapped, moves-made, swaps-made}
 use Rattle.stages.proofs.GrowthLaws.{length-seeds, length-grown, growth-fair, allPass, growth-last}
 use Rattle.stages.proofs.LoadLaws.{growth-within, moves-within}
@@ -48,22 +50,28 @@ pub record Tested (c : Call) : Type 0 where
   pub tolerance : c .options .«imbalance_per_mille» ≤ 500
   pub owners-fit : vertexCount (c .offsets) ≤ c .ownersLength
   pub work-fits : needOf c ≤ c .workLength
+  pub workloads : GoodWorkloads (vertexCount (c .offsets)) (c .workloads)
 
-first-none : (x y z w v : Bool) → _≡_ {A = ℕ} (firstOf x y z w v) 0 → (x ≡ false) × (y ≡ false) × (z ≡ false) × (w ≡ false) × (v ≡ false)
-first-none true y z w v e = absurd (omega arith)
-first-none false true z w v e = absurd (omega arith)
-first-none false false true w v e = absurd (omega arith)
-first-none false false false true v e = absurd (omega arith)
-first-none false false false false true e = absurd (omega arith)
-first-none false false false false false e = (refl, refl, refl, refl, refl)
+first-none
+    : (x y z w u v : Bool)
+    → _≡_ {A = ℕ} (firstOf x y z w u v) 0
+    → (x ≡ false) × (y ≡ false) × (z ≡ false) × (w ≡ false) × (u ≡ false) × (v ≡ false)
+first-none true y z w u v e = absurd (omega arith)
+first-none false true z w u v e = absurd (omega arith)
+first-none false false true w u v e = absurd (omega arith)
+first-none false false false true u v e = absurd (omega arith)
+first-none false false false false true v e = absurd (omega arith)
+first-none false false false false false true e = absurd (omega arith)
+first-none false false false false false false e = (refl, refl, refl, refl, refl, refl)
 
-first-early : (x y z w v : Bool) → firstOf x y z w v ≢ 0 → Early (firstOf x y z w v)
-first-early true y z w v d = refl
-first-early false true z w v d = refl
-first-early false false true w v d = refl
-first-early false false false true v d = refl
-first-early false false false false true d = refl
-first-early false false false false false d = absurd (d refl)
+first-early : (x y z w u v : Bool) → firstOf x y z w u v ≢ 0 → Early (firstOf x y z w u v)
+first-early true y z w u v d = refl
+first-early false true z w u v d = refl
+first-early false false true w u v d = refl
+first-early false false false true u v d = refl
+first-early false false false false true v d = refl
+first-early false false false false false true d = refl
+first-early false false false false false false d = absurd (d refl)
 
 -- a call with no early cause has passed them all
 pub tested : (c : Call) → earlyCause c ≡ 0 → Tested c
@@ -73,7 +81,7 @@ tested c e =
     let n = vertexCount (c .offsets) in
     let m = length (c .neighbors) in
     let k = c .ranks in
-    let f = first-none (badOptions o) (badCounts n k) (overLimits n m k (o .«max_levels»)) (badLists (c .offsets) (c .neighbors)) (tooShort c) e in
+    let f = first-none (badOptions o) (badCounts n k) (overLimits n m k (o .«max_levels»)) (badLists (c .offsets) (c .neighbors)) (badWorkloads n (c .workloads)) (tooShort c) e in
     let good = good-options o (f .0) in
     let within = limited n m k (o .«max_levels») (f .2) in
     let kne : k ≢ 0 = eqb-false k 0 (or-r (eqb n 0) (eqb k 0) (or-l (eqb n 0 || eqb k 0) (ltb n k) (f .1))) in
@@ -89,8 +97,9 @@ tested c e =
       some-per-rank = good .per-rank;
       some-passes = good .passes;
       tolerance = good .tolerance;
-      owners-fit = ltb-false (c .ownersLength) n (or-l (ltb (c .ownersLength) n) (ltb (c .workLength) (needOf c)) (f .4));
-      work-fits = ltb-false (c .workLength) (needOf c) (or-r (ltb (c .ownersLength) n) (ltb (c .workLength) (needOf c)) (f .4));
+      owners-fit = ltb-false (c .ownersLength) n (or-l (ltb (c .ownersLength) n) (ltb (c .workLength) (needOf c)) (f .5));
+      work-fits = ltb-false (c .workLength) (needOf c) (or-r (ltb (c .ownersLength) n) (ltb (c .workLength) (needOf c)) (f .5));
+      workloads = good-workloads n (c .workloads) (f .4);
     }
 
 -- an early cause has an early number
@@ -103,6 +112,7 @@ early-number c d =
     (badCounts n (c .ranks))
     (overLimits n (length (c .neighbors)) (c .ranks) (c .options .«max_levels»))
     (badLists (c .offsets) (c .neighbors))
+    (badWorkloads n (c .workloads))
     (tooShort c)
     d
 
@@ -288,7 +298,7 @@ module _ (b : Balance) where
     pub rows-are : last .rows ≡ rows
     pub owners-are : t .owners ≡ ended last
     pub sized : length (moved last) ≡ length rows
-    pub swapped : Along (Swapped rows) after (moved last) (last .swaps)
+    pub swapped : Along (Swapped (b .cap) rows ws) after (moved last) (last .swaps)
     pub within : (r : ℕ) → r < b .ranks → load ws (moved last) r ≤ b .cap
     pub checked : fromOwners (b .ranks) (moved last) ≡ 0
     pub enough : b .ranks ≤ length rows
@@ -312,7 +322,7 @@ module _ (b : Balance) where
     swaps : Bool → List Step
     swaps x = cond x (refineFinePairSwaps b rows ws listLength swapping o .steps) []
 
-    swaps-along : (x : Bool) → Along (Swapped rows) after o (swaps x)
+    swaps-along : (x : Bool) → Along (Swapped (b .cap) rows ws) after o (swaps x)
     unfolding swaps
     swaps-along true = swaps-made b rows ws listLength swapping o
     swaps-along false = tt

@@ -27,7 +27,7 @@ use Rattle.multilevel.specs.declared.driver.Answer.the-variants.{Divided
 use Rattle.multilevel.specs.declared.driver.Rules.{Rules}
 use Rattle.multilevel.specs.declared.measure.Measures.{Measures}
 use Rattle.multilevel.specs.Causes.{Call, Limited, needOf, earlyCause}
-use Rattle.multilevel.specs.Division.{Outcome, divided, swapPasses, finestWeights, division}
+use Rattle.multilevel.specs.Division.{Outcome, divided, swapPasses, division}
 use Rattle.multilevel.specs.Demand3.{siteRows, balanceOf, keptSteps}
 use Rattle.multilevel.specs.Room.{SiteFits, SiteLaid}
 use Rattle.multilevel.specs.Measure.{Measurable, Measured}
@@ -92,21 +92,24 @@ unfolding balance
 ranks-are c = refl
 
 module _ (c : Call) (w : List ℕ) (d : Divisible c w) where
+  pub site-short : length (c .workloads) ≤ 16384
+  site-short = let t = tested c (d .passed) in omega (arith, t .workloads .sized, t .few-vertices)
+
   pub site-limits : Limited (vertexCount (c .offsets)) (length (c .neighbors)) (c .ranks) (c .options .«max_levels») × (c .options .«imbalance_per_mille» ≤ 500)
   site-limits =
       let t = tested c (d .passed) in
       (record { few-vertices = t .few-vertices; few-entries = t .few-entries; few-ranks = t .few-ranks; few-levels = t .few-levels }, t .tolerance)
 
   module _ (q : Rules) (eq : q ≡ rulesFor c) (l : HierarchyLevel) (el : l ≡ siteLevel c) where
-    pub code-fits : SiteFits w l (c .offsets) (c .neighbors)
+    pub code-fits : SiteFits w l (c .offsets) (c .neighbors) (c .workloads)
     code-fits = rw el (site-fits c w d)
 
     -- the room of all levels, and the lists beyond
     pub rooms-small : q .scratch + 5 * q .unit ≤ length w
     rooms-small = rw eq (omega (arith, work-parts c w d))
 
-    module _ (w₁ : List ℕ) (s : SiteLaid w w₁ l (c .offsets) (c .neighbors)) where
-      laid : SiteLaid w w₁ (siteLevel c) (c .offsets) (c .neighbors)
+    module _ (w₁ : List ℕ) (s : SiteLaid w w₁ l (c .offsets) (c .neighbors) (c .workloads)) where
+      laid : SiteLaid w w₁ (siteLevel c) (c .offsets) (c .neighbors) (c .workloads)
       laid = rw el at s
 
       pub code-site : Placed w₁ l q (c .options .«max_levels») × (c .options .«max_levels» ≤ 32)
@@ -116,7 +119,7 @@ module _ (c : Call) (w : List ℕ) (d : Divisible c w) where
         above : LevelSolved w₁ w₂ (siteLevel c) (rulesFor c) (c .options .«max_levels») a
         above = rw (el, eq) at k
 
-        told : Told (balanceOf c) (c .options .«refinement_passes») (siteRows c) (finestWeights (siteRows c)) (keptSteps c) (c .options .«max_levels») (ownersAt w₂ (siteLevel c)) a
+        told : Told (balanceOf c) (c .options .«refinement_passes») (siteRows c) (c .workloads) (keptSteps c) (c .options .«max_levels») (ownersAt w₂ (siteLevel c)) a
         told = site-told c w d w₁ laid w₂ a above
 
         pub code-refusal : (owners : List ℕ) (n number : ℕ) → a ≡ Refused n → number ≡ answerNumber a → SiteDivided c owners owners (Refused number)
@@ -146,7 +149,7 @@ module _ (c : Call) (w : List ℕ) (d : Divisible c w) where
                 few-ranks = t′ .few-ranks;
                 ranked = λ v h.
                     all-place (λ x. x < c .ranks) (ownersAt w₂ (siteLevel c)) v
-                    (rw (ranks-are c) at (told-ranked (balanceOf c) (c .options .«refinement_passes») (siteRows c) (finestWeights (siteRows c)) (keptSteps c) (c .options .«max_levels») (ownersAt w₂ (siteLevel c)) t (rw r at told)))
+                    (rw (ranks-are c) at (told-ranked (balanceOf c) (c .options .«refinement_passes») (siteRows c) (c .workloads) (keptSteps c) (c .options .«max_levels») (ownersAt w₂ (siteLevel c)) t (rw r at told)))
                     (omega (arith, length-part w₂ (siteLevel c .owners) (siteLevel c .owners + siteLevel c .vertices) (omega arith) (omega (arith, placed₂ .ready .laid, placed₂ .ready .inside))));
               })
 
@@ -162,7 +165,7 @@ module _ (c : Call) (w : List ℕ) (d : Divisible c w) where
                 placed-rows w₁ (siteLevel c) (rulesFor c) (c .options .«max_levels») (site-placed c w d w₁ laid) w₂ (siteLevel c .«fine_to_coarse») (length w₁) (site-placed c w d w₁ laid .ready .laid .weights-in) (above .kept)
                 ∙ rw (laid .offsets-laid, laid .neighbors-laid)
 
-            weights₂ : weightsAt w₂ (siteLevel c) ≡ finestWeights (siteRows c)
+            weights₂ : weightsAt w₂ (siteLevel c) ≡ c .workloads
             weights₂ =
                 placed-weights w₁ (siteLevel c) (rulesFor c) (c .options .«max_levels») (site-placed c w d w₁ laid) w₂ (siteLevel c .«fine_to_coarse») (length w₁) (site-placed c w d w₁ laid .ready .laid .weights-in) (above .kept)
                 ∙ weights-laid c w d w₁ laid
@@ -170,16 +173,16 @@ module _ (c : Call) (w : List ℕ) (d : Divisible c w) where
             -- the code's swaps are the division's
             swaps-are
                 : swapsAt w₂ (siteLevel c) (rulesFor c .limits) (swapPasses (c .options .«refinement_passes»))
-                ≡ finestSwaps (balanceOf c) (swapPasses (c .options .«refinement_passes»)) (siteRows c) (finestWeights (siteRows c)) (solved (balanceOf c) (c .options .«refinement_passes») (siteRows c) (finestWeights (siteRows c)) (keptSteps c))
+                ≡ finestSwaps (balanceOf c) (swapPasses (c .options .«refinement_passes»)) (siteRows c) (c .workloads) (solved (balanceOf c) (c .options .«refinement_passes») (siteRows c) (c .workloads) (keptSteps c))
             unfolding finestSwaps
             swaps-are =
-                let z = divided-of (solved (balanceOf c) (c .options .«refinement_passes») (siteRows c) (finestWeights (siteRows c)) (keptSteps c) .refusal) _ t (rw r at (told .answer-is)) .0 in
+                let z = divided-of (solved (balanceOf c) (c .options .«refinement_passes») (siteRows c) (c .workloads) (keptSteps c) .refusal) _ t (rw r at (told .answer-is)) .0 in
                 let b = balanceOf c in
                 let sw = swapPasses (c .options .«refinement_passes») in
                 ap (λ (x : Balance). refineFinePairSwaps x (rowsAt w₂ (siteLevel c)) (weightsAt w₂ (siteLevel c)) 8 sw (ownersAt w₂ (siteLevel c)) .steps) (same-balance c w d)
                 ∙ ap (λ (x : List (List ℕ)). refineFinePairSwaps b x (weightsAt w₂ (siteLevel c)) 8 sw (ownersAt w₂ (siteLevel c)) .steps) rows₂
                 ∙ ap (λ (x : List ℕ). refineFinePairSwaps b (siteRows c) x 8 sw (ownersAt w₂ (siteLevel c)) .steps) weights₂
-                ∙ ap (λ (x : List ℕ). refineFinePairSwaps b (siteRows c) (finestWeights (siteRows c)) 8 sw x .steps) (told .owners-are z)
+                ∙ ap (λ (x : List ℕ). refineFinePairSwaps b (siteRows c) (c .workloads) 8 sw x .steps) (told .owners-are z)
 
             pub code-divided : (owners owners′ : List ℕ) → owners′ ≡ ownersAt w₃ l ++ drop (l .vertices) owners → SiteDivided c owners owners′ (Divided t′)
             code-divided owners owners′ eo =

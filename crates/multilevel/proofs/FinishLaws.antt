@@ -14,7 +14,7 @@ use Rattle.links.specs.declared.options.AbtmMultilevelStats.{AbtmMultilevelStat
 use Rattle.stages.specs.Moves.{after}
 use Rattle.multilevel.specs.declared.driver.Answer.the-variants.{Divided, Refused}
 use Rattle.multilevel.specs.Causes.{Call, needOf, earlyCause}
-use Rattle.multilevel.specs.Division.{Outcome, refused, divided, Trace, solve, statsOf, swapPasses, finestWeights, abtmMultilevelPartition, division}
+use Rattle.multilevel.specs.Division.{Outcome, refused, divided, Trace, solve, statsOf, swapPasses, abtmMultilevelPartition, division}
 use Rattle.multilevel.specs.Demand3.{siteRows, balanceOf, keptSteps}
 use Rattle.multilevel.specs.Driver.{solved, finestSwaps, stepCount, statsSoFar, Told}
 use Rattle.multilevel.specs.Contract.{answerOf, answerNumber, answerStats, outcomeNumber, outcomeStats, ownersAfter, workAfter, Partitioned}
@@ -29,7 +29,7 @@ module _ (c : Call) (z : earlyCause c ≡ 0) where
   rows = siteRows c
 
   abbrev weights : List ℕ
-  weights = finestWeights (siteRows c)
+  weights = c .workloads
 
   abbrev passes : ℕ
   passes = c .options .«refinement_passes»

@@ -33,7 +33,7 @@ pub level-fair
     → length (l .start) ≡ length (l .rows)
     → l .moves ≡ refineByCut b (l .rows) (l .weights) passes (l .start) .steps
     → l .settled ≡ refineByCut b (l .rows) (l .weights) passes (l .start) .settled
-    → Along (Swapped (l .rows)) after (moved l) (l .swaps)
+    → Along (Swapped (b .cap) (l .rows) (l .weights)) after (moved l) (l .swaps)
     → FairLevel b passes l
 level-fair b passes l s n em es w =
     let rows = l .rows in
@@ -41,7 +41,7 @@ level-fair b passes l s n em es w =
     let valid : Along (Gainful rows) after (l .start) (stepsOf l) =
     along-append (Gainful rows) after (l .moves) (l .swaps) (l .start)
     (along-to (Moved (b .cap) rows (l .weights)) (Gainful rows) after (moved-gainful (b .cap) rows (l .weights)) (l .moves) (l .start) m)
-    (along-to (Swapped rows) (Gainful rows) after (swapped-gainful rows) (l .swaps) (moved l) w) in
+    (along-to (Swapped (b .cap) rows (l .weights)) (Gainful rows) after (swapped-gainful (b .cap) rows (l .weights)) (l .swaps) (moved l) w) in
     record {
       moves-are = em;
       settled-is = es;

@@ -9,6 +9,7 @@ pub mod DivisionLaws
 pub mod Demand3Laws
 pub mod NineLaws
 pub mod SiteLaws
+pub mod FileWorkloadLaws
 pub mod FileLaws
 pub mod FileRowLaws
 pub mod FileWriteLaws

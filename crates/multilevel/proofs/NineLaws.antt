@@ -8,7 +8,7 @@ use mathlib.Core.List.{List, [], _∷_, map}
 use mathlib.Core.Option.{none}
 use native.Mathlib.Nat.{mul-le-mul-left, div-lt-iff-lt-mul}
 use native.Mathlib.Omega.{arith}
-use lib.ListN.{length, replicate, length-map, length-replicate}
+use lib.ListN.{length, length-map}
 use lib.Dec.{leb, ltb, eqb}
 use borrow.Author.Tests.{ne-eqb, eqb-true, eqb-false, ltb-true, ltb-false, le-ltb}
 use Rattle.links.specs.Lists.{at, unassigned, any, foldl, sum}
@@ -21,7 +21,7 @@ use Rattle.stages.specs.Growth.{Growth, weightedMultisource, grown}
 use Rattle.stages.specs.Moves.{after, repeat, destination, refineByCut}
 use Rattle.stages.specs.Swaps.{refineFinePairSwaps}
 use Rattle.multilevel.specs.Causes.{Call, earlyCause}
-use Rattle.multilevel.specs.Division.{Trace, refused, stopped, coarsenings, takeOver, swapPasses, refine, grow, solve, finestWeights, division}
+use Rattle.multilevel.specs.Division.{Trace, refused, stopped, coarsenings, takeOver, swapPasses, refine, grow, solve, division}
 use Rattle.multilevel.specs.Demand3.{siteRows, balanceOf, passesOf, keptSteps, Early}
 use Rattle.links.proofs.ListLaws.{split}
 use Rattle.links.proofs.RowLaws.{length-rows}
@@ -281,10 +281,6 @@ module _ (b : Balance) (passes : ℕ) (few-ranks : b .ranks < unassigned) (narro
           absurd (finest-9 rows s ws n w some-weight (coarsenings l stop (c .rows) (c .weights)) below swapping (rw (p, q) at e)))
           (λ q. rw (p, q) (unkept (rw (p, q) at e))))
 
-ones-weighty : (n : ℕ) → Weighty (replicate n 1)
-ones-weighty zero = tt
-ones-weighty (suc n) = (omega arith, ones-weighty n)
-
 nine-needs : (c : Call) → division c .outcome ≡ refused 9 → (keptSteps c ≡ []) × (balanceOf c .floor ≡ 0)
 unfolding balance
 nine-needs c e = ⊎-elim
@@ -294,13 +290,13 @@ nine-needs c e = ⊎-elim
     let rows = siteRows c in
     let n = length-rows (c .offsets) (c .neighbors) in
     let t = c .options .«imbalance_per_mille» in
-    let narrow = floor-or-cap (sum (finestWeights rows)) (c .ranks) t (g .some-ranks) (g .few-ranks) (g .tolerance) in
+    let narrow = floor-or-cap (sum (c .workloads)) (c .ranks) t (g .some-ranks) (g .few-ranks) (g .tolerance) in
     solve-9 (balanceOf c) (passesOf c) (omega (arith, g .few-ranks)) narrow (c .options .«max_levels») (stopSize (c .options) (c .ranks))
-    (swapPasses (passesOf c)) rows (finestWeights rows) (g .lists .sound) (omega (arith, g .few-vertices)) (length-replicate (length rows) 1)
-    (ones-weighty (length rows)) (z .1))
+    (swapPasses (passesOf c)) rows (c .workloads) (g .lists .sound) (omega (arith, g .few-vertices)) (g .workloads .sized ∙ sym n)
+    (g .workloads .some) (z .1))
     (refused-by c 9 e)
 
--- 9 comes only where no coarsening step was kept, since every finest weight is 1
+-- 9 comes only where no coarsening step was kept, since every workload is 1 at least
 pub nine-needs-none : (c : Call) → division c .outcome ≡ refused 9 → keptSteps c ≡ []
 nine-needs-none c e = nine-needs c e .0
 

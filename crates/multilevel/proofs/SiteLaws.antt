@@ -4,12 +4,13 @@ use mathlib.Core.List.{map}
 use Rattle.links.specs.Loads.{share, loadCap, minimumLoad, balance}
 use Rattle.links.specs.Graph.{neighborsCause, neighborsOf, rowsOf, badOffsets, goodRow, badLists, linksIn, load, owned, cutEntries, foreignNeighbors, volume}
 use Rattle.links.specs.Owners.{badRanks, tooMany, strayOwner, emptyRank, fromOwners}
+use Rattle.links.specs.Workloads.{badWorkload, badWorkloads}
 use Rattle.links.specs.Options.{badOptions, stopSize}
 use Rattle.stages.specs.Coarsen.{byDegree, shared, closer, partner, grouped, match, unmatched, pairing, coarseRow, coarsenOnce}
 use Rattle.stages.specs.Seeds.{spread, spreadFrom, distances, farther, nextSeed, farthestSeeds}
 use Rattle.stages.specs.Growth.{fits, afterChoice, pop, restart, claimed, chosen, turn, round, rounds, seedOwners, seeded, weightedMultisource, grown, restartCount}
 use Rattle.stages.specs.Moves.{after, linked, gain, repeat, mayLeave, mayJoin, preferred, target, destination, movePass, refineByCut}
-use Rattle.stages.specs.Swaps.{ahead, candidates, sooner, propose, proposals, allProposals, inBalance, applies, swapPass, refineFinePairSwaps}
+use Rattle.stages.specs.Swaps.{ahead, candidates, sooner, propose, proposals, allProposals, inBalance, keepsBalance, applies, swapPass, refineFinePairSwaps}
 use Rattle.multilevel.specs.Causes.{badCounts, overLimits, workNeed, tooShort, earlyCause}
 use Rattle.multilevel.specs.Division.{coarsenings, refine, grow, solve, statsOf, abtmMultilevelPartition, division}
 use Rattle.multilevel.specs.Sites.{swapsOn, found, stated, byHand, early}
@@ -23,6 +24,6 @@ unfolding byHand early swapsOn
     spread spreadFrom distances farther nextSeed farthestSeeds
     fits afterChoice pop restart claimed chosen turn round rounds seedOwners seeded weightedMultisource grown restartCount
     after linked gain repeat mayLeave mayJoin preferred target destination movePass refineByCut
-    ahead candidates sooner propose proposals allProposals inBalance applies swapPass refineFinePairSwaps
-    badCounts overLimits workNeed tooShort earlyCause coarsenings refine grow solve statsOf abtmMultilevelPartition division
+    ahead candidates sooner propose proposals allProposals inBalance keepsBalance applies swapPass refineFinePairSwaps
+    badCounts overLimits badWorkload badWorkloads workNeed tooShort earlyCause coarsenings refine grow solve statsOf abtmMultilevelPartition division
 by-hand = (refl, refl)

@@ -6,7 +6,7 @@ use mathlib.Core.Path.{_≡_}
 use mathlib.Core.Logic.{_↔_, _⊎_}
 use mathlib.Core.Bool.{true}
 use mathlib.Core.List.{List, [], _∷_, _++_, map}
-use lib.ListN.{length}
+use lib.ListN.{length, replicate}
 use Rattle.links.specs.Lists.{at, unassigned, foldl, range, sum, elem, All}
 use Rattle.links.specs.Loads.{Balance, balance}
 use Rattle.links.specs.Graph.{vertexCount, rowsOf, load, owned, cutLinks}
@@ -18,7 +18,7 @@ use Rattle.stages.specs.Growth.{Turn, passes, Growth, weightedMultisource, grow
 use Rattle.stages.specs.Moves.{Step, move, after, gain, refineByCut}
 use Rattle.stages.specs.Swaps.{refineFinePairSwaps}
 use Rattle.multilevel.specs.Causes.{Call}
-use Rattle.multilevel.specs.Division.{Run, Level, Outcome, refused, divided, noGrowth, coarsenings, listLength, swapPasses, finestWeights, stepsOf}
+use Rattle.multilevel.specs.Division.{Run, Level, Outcome, refused, divided, noGrowth, coarsenings, listLength, swapPasses, stepsOf}
 
 -- ---- what a call gives: the site's rows, its balance, its passes, and the coarsening steps kept
 
@@ -26,13 +26,13 @@ abbrev pub siteRows : Call → List (List ℕ)
 siteRows c = rowsOf (c .offsets) (c .neighbors)
 
 abbrev pub balanceOf : Call → Balance
-balanceOf c = balance (sum (finestWeights (siteRows c))) (c .ranks) (c .options .«imbalance_per_mille»)
+balanceOf c = balance (sum (c .workloads)) (c .ranks) (c .options .«imbalance_per_mille»)
 
 abbrev pub passesOf : Call → ℕ
 passesOf c = c .options .«refinement_passes»
 
 abbrev pub keptSteps : Call → List Coarse
-keptSteps c = coarsenings (c .options .«max_levels») (stopSize (c .options) (c .ranks)) (siteRows c) (finestWeights (siteRows c))
+keptSteps c = coarsenings (c .options .«max_levels») (stopSize (c .options) (c .ranks)) (siteRows c) (c .workloads)
 
 -- ---- levels
 
@@ -117,18 +117,27 @@ pub record FairShares (c : Call) (levels : List Level) (owners : List ℕ) (s : 
   -- There is "an owner for each turbine", and it is a crew.
   pub size : length owners ≡ vertexCount (c .offsets)
   pub ranked : All (λ r. r < c .ranks) owners
-  -- "In an accepted division each of k crews owns from 1 to floor(n × (1000 + t) / (1000 × k)) of the n turbines, t being the imbalance per mille."
+  -- "A crew's bound is then on its summed workload, and it still owns at least one turbine"; "the total in cap and floor is the sum of workloads".
   pub least : (r : ℕ) → r < c .ranks → 1 ≤ owned owners r
-  pub most : (r : ℕ) → r < c .ranks → owned owners r ≤ vertexCount (c .offsets) * (1000 + c .options .«imbalance_per_mille») / (1000 * c .ranks)
+  pub most
+      : (r : ℕ)
+      → r < c .ranks
+      → load (c .workloads) owners r ≤ sum (c .workloads) * (1000 + c .options .«imbalance_per_mille») / (1000 * c .ranks)
+  -- Where all workloads are 1, "each of k crews owns from 1 to floor(n × (1000 + t) / (1000 × k)) of the n turbines, t being the imbalance per mille".
+  pub ones
+      : c .workloads ≡ replicate (vertexCount (c .offsets)) 1
+      → (r : ℕ)
+      → r < c .ranks
+      → owned owners r ≤ vertexCount (c .offsets) * (1000 + c .options .«imbalance_per_mille») / (1000 * c .ranks)
   -- All levels were made, and "the owners written are those at the end of the finest level", the last, on the site's own lists.
-  pub whole : map listsOf levels ≡ ladder (siteRows c) (finestWeights (siteRows c)) (keptSteps c)
+  pub whole : map listsOf levels ≡ ladder (siteRows c) (c .workloads) (keptSteps c)
   pub finest : (coarser : List Level) × (l : Level) × (levels ≡ coarser ++ l ∷ []) × (l .rows ≡ siteRows c) × (owners ≡ ended l)
   -- "the moves that an accepted division reports are those of all levels, swaps included".
   pub moves : s .«refinement_moves» ≡ sum (map (λ l. length (stepsOf l)) levels)
 
--- the refusals that come before growth, in table order; one that is added later and comes before growth stands here too
+-- the refusals that come before growth, in the order of their tests; one that is added later and comes before growth stands here too
 abbrev pub earlyNumbers : List ℕ
-earlyNumbers = 1 ∷ 2 ∷ 3 ∷ 4 ∷ 5 ∷ 6 ∷ 7 ∷ []
+earlyNumbers = 1 ∷ 2 ∷ 3 ∷ 4 ∷ 13 ∷ 5 ∷ 6 ∷ 7 ∷ []
 
 abbrev pub Early : ℕ → Type 0
 Early number = elem number earlyNumbers ≡ true
@@ -139,7 +148,7 @@ Emptied k levels = (coarser : List Level) × (l : Level) × (r : ℕ) × (levels
 
 -- a division that comes to growth
 pub record WithGrowth (c : Call) (run : Run) : Type 0 where
-  pub growth : run .growth ≡ growthOn (balanceOf c) (siteRows c) (finestWeights (siteRows c)) (keptSteps c)
+  pub growth : run .growth ≡ growthOn (balanceOf c) (siteRows c) (c .workloads) (keptSteps c)
   -- It goes on "to last swap or to refusal 8 or 9": it is accepted; or refused by 8, and then no level was made; or by 9.
   pub refusal
       : (number : ℕ)
@@ -169,7 +178,7 @@ pub record Demand3 (c : Call) (run : Run) : Type 0 where
       : run .outcome ≡ refused 8
       → (before : List Turn) × (run .growth .turns ≡ before ++ map (λ r. record { rank = r; choice = passes }) (range 0 (c .ranks)))
   -- The levels are the site's own lists and those of the kept steps, in order, from the coarsest on, as far as the division came.
-  pub ladders : (rest : List Lists) × (map listsOf (run .levels) ++ rest ≡ ladder (siteRows c) (finestWeights (siteRows c)) (keptSteps c))
+  pub ladders : (rest : List Lists) × (map listsOf (run .levels) ++ rest ≡ ladder (siteRows c) (c .workloads) (keptSteps c))
   -- Each level is fair, with rule 6's moves; and the swaps are rule 7's, on the "finest level only".
   pub levels : (coarser finer : List Level) (l : Level) → run .levels ≡ coarser ++ l ∷ finer → FairLevel (balanceOf c) (passesOf c) l
   pub swaps

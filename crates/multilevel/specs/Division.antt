@@ -2,7 +2,7 @@
 use Prim.Native.Nat.{ℕ, zero, suc, _*_}
 use mathlib.Core.Bool.{Bool, cond}
 use mathlib.Core.List.{List, [], _∷_, _++_, map}
-use lib.ListN.{length, replicate}
+use lib.ListN.{length}
 use lib.Dec.{leb, ltb, eqb}
 use Rattle.links.specs.Lists.{at, unassigned, any, foldl, sum}
 use Rattle.links.specs.Loads.{Balance, balance, saturating}
@@ -149,12 +149,8 @@ abtmMultilevelPartition o rows weights k =
     let done = divided (t .owners) (statsOf rows k cs t) in
     record { growth = t .growth; levels = t .levels; outcome = cond (eqb (t .refusal) 0) done (refused (t .refusal)) }
 
--- "on the site's own lists each turbine is a group by itself"
-abbrev pub finestWeights : List (List ℕ) → List ℕ
-finestWeights rows = replicate (length rows) 1
-
 unfoldable pub division : Call → Run
 division c =
     let rows = rowsOf (c .offsets) (c .neighbors) in
-    let run = abtmMultilevelPartition (c .options) rows (finestWeights rows) (c .ranks) in
+    let run = abtmMultilevelPartition (c .options) rows (c .workloads) (c .ranks) in
     cond (eqb (earlyCause c) 0) run (record { growth = noGrowth; levels = []; outcome = refused (earlyCause c) })

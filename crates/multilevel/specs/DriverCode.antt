@@ -3,7 +3,7 @@ use Prim.Native.Nat.{ℕ, _+_, _*_, _≤_}
 use mathlib.Core.Path.{_≡_}
 use mathlib.Core.List.{List, []}
 use lib.ListN.{length}
-use Rattle.links.specs.Lists.{foldl}
+use Rattle.links.specs.Lists.{foldl, sum}
 use Rattle.links.specs.Parts.{Kept}
 use Rattle.links.specs.Loads.{loadCap, minimumLoad}
 use Rattle.links.specs.Graph.{vertexCount, cutEntries, volume}
@@ -60,11 +60,11 @@ pub record LevelSolved (w w′ : List ℕ) (l : HierarchyLevel) (q : Rules) (lef
 
 -- ---- the whole division
 
--- what a division of n vertices and m entries goes by
-abbrev pub rulesWith : ℕ → ℕ → ℕ → AbtmMultilevelOptions → Rules
-rulesWith n m k options =
+-- what a division of n vertices and m entries, of this total load, goes by
+abbrev pub rulesWith : ℕ → ℕ → ℕ → ℕ → AbtmMultilevelOptions → Rules
+rulesWith n m total k options =
     record {
-      limits = record { ranks = k; floor = minimumLoad n k (options .«imbalance_per_mille»); cap = loadCap n k (options .«imbalance_per_mille») };
+      limits = record { ranks = k; floor = minimumLoad total k (options .«imbalance_per_mille»); cap = loadCap total k (options .«imbalance_per_mille») };
       passes = options .«refinement_passes»;
       stop = stopSize options k;
       unit = unitOf n m;
@@ -72,7 +72,7 @@ rulesWith n m k options =
     }
 
 abbrev pub rulesFor : Call → Rules
-rulesFor c = rulesWith (vertexCount (c .offsets)) (length (c .neighbors)) (c .ranks) (c .options)
+rulesFor c = rulesWith (vertexCount (c .offsets)) (length (c .neighbors)) (sum (c .workloads)) (c .ranks) (c .options)
 
 -- where its finest level lies
 abbrev pub siteLevel : Call → HierarchyLevel

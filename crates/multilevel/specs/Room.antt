@@ -2,7 +2,7 @@
 use Prim.Native.Nat.{ℕ, _+_, _*_, _≤_, _<_}
 use mathlib.Core.Path.{_≡_}
 use mathlib.Core.List.{List, map}
-use lib.ListN.{length, replicate}
+use lib.ListN.{length}
 use Rattle.links.specs.Lists.{at, All}
 use Rattle.links.specs.Parts.{Kept}
 use Rattle.stages.specs.Level.{offsetsAt, neighborsAt, weightsAt, groupAt, ownersAt, Laid}
@@ -41,16 +41,17 @@ movedUp l unit =
 -- ---- the site's own lists
 
 -- they fit the level that they are laid into
-pub record SiteFits (w : List ℕ) (l : HierarchyLevel) (offsets neighbors : List ℕ) : Type 0 where
+pub record SiteFits (w : List ℕ) (l : HierarchyLevel) (offsets neighbors workloads : List ℕ) : Type 0 where
   pub laid : Laid l (length w)
   pub offsets-sized : length offsets ≡ l .vertices + 1
   pub neighbors-sized : length neighbors ≡ l .entries
+  pub workloads-sized : length workloads ≡ l .vertices
 
--- "on the site's own lists each turbine is a group by itself": its weight is 1
-pub record SiteLaid (w w′ : List ℕ) (l : HierarchyLevel) (offsets neighbors : List ℕ) : Type 0 where
+-- "on the site's own lists each turbine is a group by itself": its weight is its workload
+pub record SiteLaid (w w′ : List ℕ) (l : HierarchyLevel) (offsets neighbors workloads : List ℕ) : Type 0 where
   pub offsets-laid : offsetsAt w′ l ≡ offsets
   pub neighbors-laid : neighborsAt w′ l ≡ neighbors
-  pub weights-laid : weightsAt w′ l ≡ replicate (l .vertices) 1
+  pub weights-laid : weightsAt w′ l ≡ workloads
   pub frame : Kept (l .offsets) (l .weights + l .vertices) w′ w
 
 -- ---- "each finer level in turn takes over its groups' owners"

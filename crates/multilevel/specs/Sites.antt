@@ -1,9 +1,9 @@
 -- The sites by hand of 01, one for a request of 02, and the causes that come before the work, as two tables of claims. proofs/SiteLaws.antt proves
 -- each table by computation. Assumes nothing.
-use Prim.Native.Nat.{ℕ, _+_}
+use Prim.Native.Nat.{ℕ, _+_, _-_}
 use mathlib.Core.Bool.{_&&_, _||_}
 use mathlib.Core.List.{List, [], _∷_, map}
-use lib.ListN.{length}
+use lib.ListN.{length, replicate}
 use lib.Dec.{eqb}
 use Rattle.links.specs.Lists.{filter, any, foldl, range, sum, concatMap}
 use Rattle.links.specs.Loads.{balance}
@@ -11,7 +11,7 @@ use Rattle.links.specs.declared.options.AbtmMultilevelStats.{AbtmMultilevelStat
 use Rattle.stages.specs.Moves.{Step, after}
 use Rattle.stages.specs.Swaps.{refineFinePairSwaps}
 use Rattle.multilevel.specs.Causes.{Call, workNeed}
-use Rattle.multilevel.specs.Division.{Outcome, refused, divided, division, finestWeights, listLength, swapPasses}
+use Rattle.multilevel.specs.Division.{Outcome, refused, divided, division, listLength, swapPasses}
 
 -- n vertices and their links
 pub record Site : Type 0 where
@@ -32,11 +32,12 @@ offsetsFrom a (r ∷ rs) = a ∷ offsetsFrom (a + length r) rs
 -- ---- calls
 
 -- lists, k, options (L, per crew, t, passes), and the lengths of the lent owner and work slices
-abbrev pub lent : List ℕ → List ℕ → ℕ → ℕ × ℕ × ℕ × ℕ → ℕ → ℕ → Call
-lent offsets neighbors k o owners work =
+abbrev pub weighted : List ℕ → List ℕ → List ℕ → ℕ → ℕ × ℕ × ℕ × ℕ → ℕ → ℕ → Call
+weighted offsets neighbors workloads k o owners work =
     record {
       offsets = offsets;
       neighbors = neighbors;
+      workloads = workloads;
       ranks = k;
       options =
           record {
@@ -49,11 +50,24 @@ lent offsets neighbors k o owners work =
       workLength = work;
     }
 
+-- all workloads 1
+abbrev pub ones : ℕ → List ℕ
+ones n = replicate n 1
+
+abbrev pub lent : List ℕ → List ℕ → ℕ → ℕ × ℕ × ℕ × ℕ → ℕ → ℕ → Call
+lent offsets neighbors k o owners work = weighted offsets neighbors (ones (length offsets - 1)) k o owners work
+
 -- a site's lists, with slices just long enough
 abbrev pub site : Site → ℕ → ℕ × ℕ × ℕ × ℕ → Call
 site s k o =
     let neighbors = concatMap (λ r. r) (rowsIn s) in
     lent (offsetsFrom 0 (rowsIn s)) neighbors k o (s .n) (workNeed (s .n) (length neighbors) k (o .0))
+
+-- and with workloads
+abbrev pub laden : Site → List ℕ → ℕ → ℕ × ℕ × ℕ × ℕ → Call
+laden s workloads k o =
+    let neighbors = concatMap (λ r. r) (rowsIn s) in
+    weighted (offsetsFrom 0 (rowsIn s)) neighbors workloads k o (s .n) (workNeed (s .n) (length neighbors) k (o .0))
 
 -- ---- claims
 
@@ -67,7 +81,7 @@ pub data Claim : Type 0 where
 -- the swaps that rule 7 makes there
 unfoldable pub swapsOn : Site → ℕ → ℕ → ℕ → List ℕ → List Step
 swapsOn s k t passes owners =
-    let weights = finestWeights (rowsIn s) in
+    let weights = ones (length (rowsIn s)) in
     refineFinePairSwaps (balance (sum weights) k t) (rowsIn s) weights listLength (swapPasses passes) owners .steps
 
 -- what comes out, and what the claim says
@@ -124,6 +138,13 @@ alone = record { n = 4; links = [] }
 abbrev pub crossed : Site
 crossed = record { n = 4; links = (0, 2) ∷ (1, 3) ∷ [] }
 
+-- a swap that a load before it forbids, and one that a load after it forbids
+abbrev pub kite : Site
+kite = record { n = 5; links = (0, 1) ∷ (0, 3) ∷ (1, 2) ∷ (2, 3) ∷ (2, 4) ∷ [] }
+
+abbrev pub highStar : Site
+highStar = record { n = 4; links = (0, 3) ∷ (1, 3) ∷ (2, 3) ∷ [] }
+
 -- two crews "offer a move the same gain", and the one with "the smaller load now" is not the lower
 abbrev pub eight : Site
 eight =
@@ -150,6 +171,8 @@ byHand =
     ∷ ends (site threePairs 4 (12, 1, 334, 2)) (refused 7)
     ∷ ends (site alone 2 (12, 1, 30, 2)) (divided (0 ∷ 1 ∷ 0 ∷ 1 ∷ []) (stats 0 4 0 0 2 0 0 0))
     ∷ swaps crossed 2 30 2 (0 ∷ 0 ∷ 1 ∷ 1 ∷ []) 1 (1 ∷ 0 ∷ 1 ∷ 0 ∷ [])
+    ∷ ends (laden kite (1064 ∷ 8401 ∷ 2172 ∷ 6255 ∷ 4692 ∷ []) 3 (2, 2, 200, 2)) (divided (1 ∷ 2 ∷ 0 ∷ 0 ∷ 1 ∷ []) (stats 0 5 0 0 1 0 8 8))
+    ∷ ends (laden highStar (5 ∷ 4 ∷ 3 ∷ 6 ∷ []) 3 (3, 2, 366, 3)) (divided (1 ∷ 2 ∷ 1 ∷ 0 ∷ []) (stats 0 4 0 0 1 0 6 5))
     ∷ ends (site eight 3 (1, 2, 500, 3)) (divided (1 ∷ 1 ∷ 2 ∷ 2 ∷ 1 ∷ 2 ∷ 0 ∷ 1 ∷ []) (stats 1 4 4 0 0 3 20 12))
     ∷ []
 
@@ -186,6 +209,12 @@ early =
     ∷ ends (lent pairOffsets (0 ∷ 1 ∷ []) 2 (1, 1, 30, 2) 0 0) (refused 4)
     ∷ ends (lent pairOffsets (1 ∷ 2 ∷ []) 2 (1, 1, 30, 2) 0 0) (refused 4)
     ∷ ends (lent (0 ∷ 1 ∷ 1 ∷ []) (1 ∷ []) 2 (1, 1, 30, 2) 0 0) (refused 4)
+    -- a workload of 0, one of 10,001, too few, too many; 10,000 is taken
+    ∷ ends (weighted pairOffsets pair (0 ∷ 1 ∷ []) 2 (1, 1, 30, 2) 0 0) (refused 13)
+    ∷ ends (weighted pairOffsets pair (1 ∷ 10001 ∷ []) 2 (1, 1, 30, 2) 0 0) (refused 13)
+    ∷ ends (weighted pairOffsets pair (1 ∷ []) 2 (1, 1, 30, 2) 0 0) (refused 13)
+    ∷ ends (weighted pairOffsets pair (1 ∷ 1 ∷ 1 ∷ []) 2 (1, 1, 30, 2) 0 0) (refused 13)
+    ∷ ends (weighted pairOffsets pair (10000 ∷ 10000 ∷ []) 2 (1, 1, 30, 2) 2 194) (divided (0 ∷ 1 ∷ []) (stats 0 2 0 0 0 0 2 2))
     -- owners too short, work too short; and both just long enough
     ∷ ends (lent pairOffsets pair 2 (1, 1, 30, 2) 1 194) (refused 5)
     ∷ ends (lent pairOffsets pair 2 (1, 1, 30, 2) 2 193) (refused 5)

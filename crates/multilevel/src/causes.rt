@@ -2,11 +2,22 @@
 ghost use mathlib.Core.Path.{_≡_};
 ghost use mathlib.Core.Bool.{_||_};
 ghost use lib.Dec.{ltb};
+ghost use Prim.Native.Nat.{_≤_, _<_};
+ghost use lib.ListN.{length};
+ghost use Rattle.links.specs.Lists.{sum};
 ghost use Rattle.multilevel.specs.Causes.{callOf, badCounts, overLimits, workNeed, Limited, earlyCause};
 use links::AbtmMultilevelOptions;
 use links::index;
 use links::lists_cause;
 use links::vertex_count;
+use links::wide;
+use links::workloads_cause;
+
+// What is asked of a division: for how many ranks, and by which options.
+pub struct Terms {
+    pub ranks: u32,
+    pub options: AbtmMultilevelOptions,
+}
 
 fn bad_counts(n: usize, ranks: usize) -> bool
     ensures { λ r. ⌜ r ≡ badCounts n ranks ⌝ }
@@ -35,6 +46,21 @@ fn over_limits(n: usize, m: usize, ranks: usize, levels: u64) -> bool
     levels > 32
 }
 
+// The load of the whole site.
+// Rules out: a sum that wraps.
+pub(crate) fn total_of(workloads: &[u32]) -> u64
+    requires { ⌜ length (now workloads) ≤ 16384 ⌝ }
+    ensures { λ r. ⌜ r ≡ sum (now (workloads .entry)) ⌝ }
+{
+    let mut total: u64 = 0;
+    let mut i: usize = 0;
+    while i < workloads.len() {
+        total = total + wide(workloads[i]);
+        i += 1;
+    }
+    total
+}
+
 // How many numbers a division's work takes.
 // Rules out: a product that wraps to a small number.
 pub(crate) fn work_need(n: usize, m: usize, ranks: usize, levels: usize) -> usize
@@ -61,24 +87,25 @@ fn too_short(
     work_length < work_need(n, m, ranks, levels)
 }
 
-// 0, or the first of the causes 1 to 5 that holds.
-// Rules out: another order than the table's; work counted before the limits were tested.
+// 0, or the first of the causes 1 to 5 and 13 that holds.
+// Rules out: another order than the papers'; work counted before the limits were tested.
 pub(crate) fn early_cause(
     offsets: &[u32],
     neighbors: &[u32],
-    ranks: u32,
-    options: AbtmMultilevelOptions,
+    workloads: &[u32],
+    asked: Terms,
     owners_length: usize,
     work_length: usize,
 ) -> u32
-    ensures { λ r. ⌜ r ≡ earlyCause (callOf (now (offsets .entry)) (now (neighbors .entry)) ranks options «owners_length» «work_length») ⌝ }
+    ensures { λ r. ⌜ r ≡ earlyCause (callOf (now (offsets .entry)) (now (neighbors .entry)) (now (workloads .entry)) (asked .ranks) (asked .options) «owners_length» «work_length») ⌝ }
 {
+    let options = asked.options;
     if options.validate() != 0 {
         return 1;
     }
     let n = vertex_count(offsets);
     let m = neighbors.len();
-    let k = index(ranks);
+    let k = index(asked.ranks);
     let levels = options.max_levels;
     if bad_counts(n, k) {
         return 2;
@@ -88,6 +115,9 @@ pub(crate) fn early_cause(
     }
     if lists_cause(offsets, neighbors) != 0 {
         return 4;
+    }
+    if workloads_cause(workloads, n) != 0 {
+        return 13;
     }
     if too_short(n, m, k, levels as usize, owners_length, work_length) {
         return 5;

@@ -6,7 +6,9 @@ ghost use Rattle.multilevel.specs.Causes.{Limited, callOf};
 ghost use Rattle.multilevel.specs.Contract.{answerNumber, Partitioned};
 ghost use Rattle.multilevel.specs.Division.{swapPasses};
 ghost use Rattle.multilevel.specs.DriverCode.{Placed, Refining, LevelRefined, LevelGrown, LevelSolved, Finishing, LevelFinished, Divisible, SiteDivided, rulesWith};
+use crate::causes::Terms;
 use crate::causes::early_cause;
+use crate::causes::total_of;
 use crate::causes::work_need;
 use crate::lay::lay_site;
 use crate::measure::measure_level;
@@ -76,17 +78,17 @@ fn refine_level(work: &mut [u32], q: Rules, l: HierarchyLevel, s: AbtmMultilevel
     Answer::Divided(s.added_moves(moves))
 }
 
-fn rules_of(n: usize, m: usize, ranks: u32, options: AbtmMultilevelOptions) -> Rules
+fn rules_of(n: usize, m: usize, total: u64, ranks: u32, options: AbtmMultilevelOptions) -> Rules
     requires { ⌜ Limited n m ranks (options .«max_levels») × (options .«imbalance_per_mille» ≤ 500) ⌝ }
-    ensures { λ r. ⌜ r ≡ rulesWith n m ranks options ⌝ }
+    ensures { λ r. ⌜ r ≡ rulesWith n m total ranks options ⌝ }
 {
     let t = options.imbalance_per_mille as u32;
     let levels = options.max_levels as usize;
     let unit = 4 * n + 2 * m + 2;
     let limits = Limits {
         ranks: index(ranks),
-        floor: minimum_load(n as u64, ranks, t),
-        cap: load_cap(n as u64, ranks, t),
+        floor: minimum_load(total, ranks, t),
+        cap: load_cap(total, ranks, t),
     };
     Rules {
         limits,
@@ -180,20 +182,21 @@ fn finish(
 fn divide(
     offsets: &[u32],
     neighbors: &[u32],
-    ranks: u32,
-    options: AbtmMultilevelOptions,
+    workloads: &[u32],
+    asked: Terms,
     owners: &mut [u32],
     work: &mut [u32],
 ) -> Answer
-    requires { ⌜ Divisible (callOf (now offsets) (now neighbors) ranks options (length (now owners)) (length (now work))) (now work) ⌝ }
-    ensures { λ a. ⌜ SiteDivided (callOf (now (offsets .entry)) (now (neighbors .entry)) ranks options (length (now (owners .entry))) (length (now (work .entry)))) (now (owners .entry)) (now (owners .exit)) a ⌝ }
+    requires { ⌜ Divisible (callOf (now offsets) (now neighbors) (now workloads) (asked .ranks) (asked .options) (length (now owners)) (length (now work))) (now work) ⌝ }
+    ensures { λ a. ⌜ SiteDivided (callOf (now (offsets .entry)) (now (neighbors .entry)) (now (workloads .entry)) (asked .ranks) (asked .options) (length (now (owners .entry))) (length (now (work .entry)))) (now (owners .entry)) (now (owners .exit)) a ⌝ }
 {
+    let options = asked.options;
     let n = vertex_count(offsets);
     let m = neighbors.len();
-    let q = rules_of(n, m, ranks, options);
+    let q = rules_of(n, m, total_of(workloads), asked.ranks, options);
     let l = level_at(n, m, 0);
     let levels = options.max_levels as usize;
-    lay_site(work, l, offsets, neighbors);
+    lay_site(work, l, offsets, neighbors, workloads);
     let a = solve(work, q, levels, l);
     let Answer::Divided(s) = a else {
         return Answer::Refused(a.number());
@@ -204,19 +207,28 @@ fn divide(
     Answer::Divided(t)
 }
 
-// Rule 8: the whole division. 1 to 5 touch nothing; past 5 the needed work numbers are zero at exit; owners are written only on success.
+// Rule 8: the whole division. 1 to 5 and 13 touch nothing; past 5 the needed work numbers are zero at exit; owners are written only on success.
 // Rules out: moves and swaps only feigned; moves or restarts invented; rank 0 for all; owners never written; every site refused.
 pub fn abtm_multilevel_partition(
     offsets: &[u32],
     neighbors: &[u32],
+    workloads: &[u32],
     ranks: u32,
     options: AbtmMultilevelOptions,
     owners: &mut [u32],
     work: &mut [u32],
 ) -> Answer
-    ensures { λ a. ⌜ Partitioned (callOf (now (offsets .entry)) (now (neighbors .entry)) ranks options (length (now (owners .entry))) (length (now (work .entry)))) (now (owners .entry)) (now (owners .exit)) (now (work .entry)) (now (work .exit)) a ⌝ }
+    ensures { λ a. ⌜ Partitioned (callOf (now (offsets .entry)) (now (neighbors .entry)) (now (workloads .entry)) ranks options (length (now (owners .entry))) (length (now (work .entry)))) (now (owners .entry)) (now (owners .exit)) (now (work .entry)) (now (work .exit)) a ⌝ }
 {
-    let cause = early_cause(offsets, neighbors, ranks, options, owners.len(), work.len());
+    let asked = Terms { ranks, options };
+    let cause = early_cause(
+        offsets,
+        neighbors,
+        workloads,
+        asked,
+        owners.len(),
+        work.len(),
+    );
     if cause != 0 {
         return Answer::Refused(cause);
     }
@@ -225,8 +237,8 @@ pub fn abtm_multilevel_partition(
     let a = divide(
         offsets,
         neighbors,
-        ranks,
-        options,
+        workloads,
+        asked,
         owners,
         &mut work[0..need],
     );

@@ -13,14 +13,14 @@ use Rattle.multilevel.proofs.driver.abtm_multilevel_partition.Tie as ti
 
 -- the call, that none of causes 1 to 5 is met, and how much work is needed
 abbrev call : tie.Start → Call
-call s = let a = s .args in callOf (a .offsets .now) (a .neighbors .now) (a .ranks) (a .options) (length (a .owners .now)) (length (a .work .now))
+call s = let a = s .args in callOf (a .offsets .now) (a .neighbors .now) (a .workloads .now) (a .ranks) (a .options) (length (a .owners .now)) (length (a .work .now))
 
-passes : (c : tie.Else1) → earlyCause (call (c .before .before .before .before .before .before)) ≡ 0
+passes : (c : tie.Else1) → earlyCause (call (c .before .before .before .before .before .before .before)) ≡ 0
 passes c = sym (c .before .early-cause .ensures) ∙ c .if1 .left
 
-need-is : (c : tie.After-work-need) → c .work-need .result ≡ needOf (call (c .before .before .before .before .before .before .before .before .before))
+need-is : (c : tie.After-work-need) → c .work-need .result ≡ needOf (call (c .before .before .before .before .before .before .before .before .before .before))
 need-is c =
-    let a = c .before .before .before .before .before .before .before .before .before .args in
+    let a = c .before .before .before .before .before .before .before .before .before .before .args in
     let m = length (a .neighbors .now) in
     let levels = a .options .«max_levels» in
     c .work-need .ensures
@@ -32,7 +32,7 @@ early-cause-requires c κs = search needs
 
 returns : tie.Need-returns
 returns c =
-    let s = c .before .before .before .before .before .before in
+    let s = c .before .before .before .before .before .before .before in
     early-refused (call s) (s .args .owners .now) (s .args .work .now) _ (c .before .early-cause .ensures) (c .if1 .taken)
 
 vertex-count-requires : tie.Need-vertex-count-requires
@@ -42,7 +42,7 @@ index-requires : tie.Need-index-requires
 index-requires c κs = search needs
 
 work-need-requires : tie.Need-work-need-requires
-work-need-requires c κs = rw (c .before .vertex-count .ensures, c .index .ensures) (whole-limits (call (c .before .before .before .before .before .before .before .before)) (passes (c .before .before)))
+work-need-requires c κs = rw (c .before .vertex-count .ensures, c .index .ensures) (whole-limits (call (c .before .before .before .before .before .before .before .before .before)) (passes (c .before .before)))
 
 sub-divide : tie.Need-sub-divide
 sub-divide c = search needs
@@ -54,14 +54,14 @@ part-divide-end : tie.Need-part-divide-end
 part-divide-end c =
     let n = c .before in
     let e = n .before .before .before in
-    let s = e .before .before .before .before .before .before in
+    let s = e .before .before .before .before .before .before .before in
     omega (arith, whole-fits (call s) (passes e) (s .args .work .now) refl _ (need-is n))
 
 divide-requires : tie.Need-divide-requires
 divide-requires c κs =
     let n = c .before .before in
     let e = n .before .before .before in
-    let s = e .before .before .before .before .before .before in
+    let s = e .before .before .before .before .before .before .before in
     whole-divisible (call s) (passes e) (s .args .work .now) refl _ (need-is n)
 
 fill-part-requires : tie.Need-fill-part-requires
@@ -77,7 +77,7 @@ returns-2 : tie.Need-returns-2
 returns-2 c =
     let n = c .before .before .before .before .before .before .before .before .before .before .before in
     let e = n .before .before .before in
-    let s = e .before .before .before .before .before .before in
+    let s = e .before .before .before .before .before .before .before in
     let d = c .before .before .before .before .before .before .before .before .divide in
     whole-partitioned (call s) (passes e) (s .args .work .now) refl _ (need-is n) _ _ _ _ (c .before .before .fill-part .ensures ∙ whole-zeroed (call s) (passes e) (s .args .work .now) refl _ (need-is n) (d .last .1 .1 .1 .1 .1 .0) (d .kept .1 .1 .1 .1 .1 .0)) (d .ensures)
 

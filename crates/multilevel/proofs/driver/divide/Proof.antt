@@ -3,35 +3,44 @@ use Prim.Native.Nat.{ℕ}
 use mathlib.Core.Path.{_≡_, _∙_, ap}
 use native.Mathlib.Omega.{arith}
 use lib.ListN.{length}
+use Rattle.links.specs.Graph.{vertexCount}
 use Rattle.multilevel.specs.Causes.{Call, callOf}
 use Rattle.multilevel.specs.Room.{levelAt}
 use Rattle.multilevel.specs.DriverCode.{rulesWith, rulesFor, siteLevel}
-use Rattle.multilevel.proofs.EndLaws.{site-limits, code-fits, code-site, code-refusal, rooms-small, code-finishing, code-room, code-divided}
+use Rattle.multilevel.proofs.EndLaws.{site-short, site-limits, code-fits, code-site, code-refusal, rooms-small, code-finishing, code-room, code-divided}
 use borrow.Author.Needs.{needs}
 use Rattle.multilevel.proofs.driver.divide.Statement.{statement}
 use Rattle.multilevel.proofs.driver.divide.Tie as tie
 
 -- the call, and that the rules and the finest level are its own
 abbrev call : tie.Start → Call
-call s = let a = s .args in callOf (a .offsets .now) (a .neighbors .now) (a .ranks) (a .options) (length (a .owners .now)) (length (a .work .now))
+call s = let a = s .args in callOf (a .offsets .now) (a .neighbors .now) (a .workloads .now) (a .asked .ranks) (a .asked .options) (length (a .owners .now)) (length (a .work .now))
 
-rules-are : (c : tie.After-rules-of) → c .rules-of .result ≡ rulesFor (call (c .before .before .before .before .before .before))
+rules-are : (c : tie.After-rules-of) → c .rules-of .result ≡ rulesFor (call (c .before .before .before .before .before .before .before .before .before))
 rules-are c =
-    let a = c .before .before .before .before .before .before .args in
-    c .rules-of .ensures ∙ ap (λ (x : ℕ). rulesWith x (length (a .neighbors .now)) (a .ranks) (a .options)) (c .before .vertex-count .ensures)
+    let a = c .before .before .before .before .before .before .before .before .before .args in
+    let m = length (a .neighbors .now) in
+    c .rules-of .ensures
+    ∙ ap (λ (x : ℕ). rulesWith x m (c .before .total-of .result) (a .asked .ranks) (a .asked .options)) (c .before .before .vertex-count .ensures)
+    ∙ ap (λ (x : ℕ). rulesWith (vertexCount (a .offsets .now)) m x (a .asked .ranks) (a .asked .options)) (c .before .total-of .ensures)
 
-level-is : (c : tie.After-level-at) → c .level-at .result ≡ siteLevel (call (c .before .before .before .before .before .before .before))
+level-is : (c : tie.After-level-at) → c .level-at .result ≡ siteLevel (call (c .before .before .before .before .before .before .before .before .before .before))
 level-is c =
-    let a = c .before .before .before .before .before .before .before .args in
-    c .level-at .ensures ∙ ap (λ (x : ℕ). levelAt x (length (a .neighbors .now)) 0) (c .before .before .vertex-count .ensures)
+    let a = c .before .before .before .before .before .before .before .before .before .before .args in
+    c .level-at .ensures ∙ ap (λ (x : ℕ). levelAt x (length (a .neighbors .now)) 0) (c .before .before .before .vertex-count .ensures)
 
 vertex-count-requires : tie.Need-vertex-count-requires
 vertex-count-requires c κs = search needs
 
+total-of-requires : tie.Need-total-of-requires
+total-of-requires c κs =
+    let s = c .before .before .before .before .before .before .before in
+    site-short (call s) (s .args .work .now) (s .pre)
+
 rules-of-requires : tie.Need-rules-of-requires
 rules-of-requires c κs =
-    let s = c .before .before .before .before .before in
-    rw (c .vertex-count .ensures) (site-limits (call s) (s .args .work .now) (s .pre))
+    let s = c .before .before .before .before .before .before .before .before in
+    rw (c .before .vertex-count .ensures) (site-limits (call s) (s .args .work .now) (s .pre))
 
 level-at-requires : tie.Need-level-at-requires
 level-at-requires c κs = search needs
@@ -40,14 +49,14 @@ lay-site-requires : tie.Need-lay-site-requires
 lay-site-requires c κs =
     let l = c .before in
     let r = l .before in
-    let s = r .before .before .before .before .before .before in
+    let s = r .before .before .before .before .before .before .before .before .before in
     code-fits (call s) (s .args .work .now) (s .pre) _ (rules-are r) _ (level-is l)
 
 solve-requires : tie.Need-solve-requires
 solve-requires c κs =
     let l = c .before .before .before .before .before in
     let r = l .before in
-    let s = r .before .before .before .before .before .before in
+    let s = r .before .before .before .before .before .before .before .before .before in
     code-site (call s) (s .args .work .now) (s .pre) _ (rules-are r) _ (level-is l) _ (c .before .before .before .lay-site .ensures)
 
 enum-known-a : tie.Need-enum-known-a
@@ -69,7 +78,7 @@ returns c =
     let c9 = c5 .before .before .before .before in
     let l = c9 .before .before in
     let r = l .before in
-    let s = r .before .before .before .before .before .before in
+    let s = r .before .before .before .before .before .before .before .before .before in
     code-refusal (call s) (s .args .work .now) (s .pre) _ (rules-are r) _ (level-is l) _ (c9 .lay-site .ensures)
     _ _ (c5 .solve .ensures) _ _ _ (c1 .enum-told .given .1) (c .number .ensures)
 
@@ -77,14 +86,14 @@ mul-lists : tie.Need-mul-lists
 mul-lists c =
     let l = c .before .before .before .before .before .before .before .before .before .before .before .before in
     let r = l .before in
-    let s = r .before .before .before .before .before .before in
+    let s = r .before .before .before .before .before .before .before .before .before in
     omega (arith, rooms-small (call s) (s .args .work .now) (s .pre) _ (rules-are r) _ (level-is l), s .good)
 
 add-lists : tie.Need-add-lists
 add-lists c =
     let l = c .before .before .before .before .before .before .before .before .before .before .before .before .before in
     let r = l .before in
-    let s = r .before .before .before .before .before .before in
+    let s = r .before .before .before .before .before .before .before .before .before in
     omega (arith, rooms-small (call s) (s .args .work .now) (s .pre) _ (rules-are r) _ (level-is l), s .good)
 
 finish-requires : tie.Need-finish-requires
@@ -94,7 +103,7 @@ finish-requires c κs =
     let c12 = c8 .before .before .before .before in
     let l = c12 .before .before in
     let r = l .before in
-    let s = r .before .before .before .before .before .before in
+    let s = r .before .before .before .before .before .before .before .before .before in
     code-finishing (call s) (s .args .work .now) (s .pre) _ (rules-are r) _ (level-is l) _ (c12 .lay-site .ensures)
     _ _ (c8 .solve .ensures) _ (c4 .a .given .1)
 
@@ -106,7 +115,7 @@ write-owners-requires c κs =
     let c17 = c13 .before .before .before .before in
     let l = c17 .before .before in
     let r = l .before in
-    let s = r .before .before .before .before .before .before in
+    let s = r .before .before .before .before .before .before .before .before .before in
     code-room (call s) (s .args .work .now) (s .pre) _ (rules-are r) _ (level-is l) _ (c17 .lay-site .ensures)
     _ _ (c13 .solve .ensures) _ (c9 .a .given .1) _ _ (c4 .finish .ensures)
 
@@ -128,7 +137,7 @@ returns-2 c =
     let c20 = c16 .before .before .before .before in
     let l = c20 .before .before in
     let r = l .before in
-    let s = r .before .before .before .before .before .before in
+    let s = r .before .before .before .before .before .before .before .before .before in
     code-divided (call s) (s .args .work .now) (s .pre) _ (rules-are r) _ (level-is l) _ (c20 .lay-site .ensures)
     _ _ (c16 .solve .ensures) _ (c12 .a .given .1) _ _ (c7 .finish .ensures) _ _ (c .before .before .write-owners .ensures)
 
@@ -137,6 +146,7 @@ divide-spec =
     tie.close
     (tie.spec
     vertex-count-requires
+    total-of-requires
     rules-of-requires
     level-at-requires
     lay-site-requires

@@ -39,11 +39,11 @@ load-cap-requires c κs = search needs
 stop-size-requires : tie.Need-stop-size-requires
 stop-size-requires c κs = search needs
 
-add-t11 : tie.Need-add-t11
-add-t11 c = search needs
+add-t12 : tie.Need-add-t12
+add-t12 c = search needs
 
-mul-t10 : tie.Need-mul-t10
-mul-t10 c =
+mul-t11 : tie.Need-mul-t11
+mul-t11 c =
     let c5 = c .before .before .before .before .before in
     let a = c5 .args in
     omega (arith, need-small (a .n) (a .m) (a .ranks) (a .options .«max_levels») (c5 .pre .0) .0, add-mul (a .options .«max_levels» + 1) 5 (unitOf (a .n) (a .m)), six (a .options .«max_levels») (unitOf (a .n) (a .m)))
@@ -64,6 +64,6 @@ rules-of-spec =
     minimum-load-requires
     load-cap-requires
     stop-size-requires
-    add-t11
-    mul-t10
+    add-t12
+    mul-t11
     returns)

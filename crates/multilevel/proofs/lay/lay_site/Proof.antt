@@ -1,4 +1,4 @@
--- Two copies and a fill, each of which leaves those before it. Assumes nothing.
+-- Three copies, each of which leaves those before it. Assumes nothing.
 use Rattle.multilevel.proofs.LayLaws.{site-laid}
 use borrow.Author.Needs.{needs}
 use Rattle.multilevel.proofs.lay.lay_site.Statement.{statement}
@@ -19,11 +19,11 @@ add-copy-part-3 c = search needs
 copy-part-requires-2 : tie.Need-copy-part-requires-2
 copy-part-requires-2 c κs = search needs
 
-add-fill-part : tie.Need-add-fill-part
-add-fill-part c = search needs
+add-copy-part-4 : tie.Need-add-copy-part-4
+add-copy-part-4 c = search needs
 
-fill-part-requires : tie.Need-fill-part-requires
-fill-part-requires c κs = search needs
+copy-part-requires-3 : tie.Need-copy-part-requires-3
+copy-part-requires-3 c κs = search needs
 
 same-length : tie.Need-same-length
 same-length c = search needs
@@ -32,9 +32,9 @@ returns : tie.Need-returns
 returns c =
     let c7 = c .before .before .before .before .before .before .before in
     let c12 = c7 .before .before .before .before .before in
-    let c19 = c12 .before .before .before .before .before .before .before in
-    let a = c19 .args in
-    site-laid (a .work .now) (c12 .copy-part .last .0) (c7 .copy-part2 .last .0) (c .before .before .fill-part .last .0) (a .l) (a .offsets .now) (a .neighbors .now) (c19 .pre) (c12 .copy-part .ensures) (c7 .copy-part2 .ensures) (c .before .before .fill-part .ensures)
+    let s = c .before .before .before .before .before .before .before .before .before .before .before .before .before .before .before .before .before .before .before .before in
+    let a = s .args in
+    site-laid (a .work .now) (c12 .copy-part .last .0) (c7 .copy-part2 .last .0) (c .before .before .copy-part3 .last .0) (a .l) (a .offsets .now) (a .neighbors .now) (a .workloads .now) (s .pre) (c12 .copy-part .ensures) (c7 .copy-part2 .ensures) (c .before .before .copy-part3 .ensures)
 
 pub lay-site-spec : {M : Type 1} → statement M
 lay-site-spec =
@@ -45,7 +45,7 @@ lay-site-spec =
     copy-part-requires
     add-copy-part-3
     copy-part-requires-2
-    add-fill-part
-    fill-part-requires
+    add-copy-part-4
+    copy-part-requires-3
     same-length
     returns)
