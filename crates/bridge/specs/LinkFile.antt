@@ -22,13 +22,14 @@ headerOf s =
     ∷ s .options .«refinement_passes»
     ∷ []
 
--- what the reader answers of a file with so many offsets and neighbors lent
-abbrev pub answerOf : List ℕ → ℕ → ℕ → Read
-answerOf b offsetsLength neighborsLength =
-    cond (eqb (readerCause b offsetsLength neighborsLength) 0) (Site (sizesOf b)) (Refused (readerCause b offsetsLength neighborsLength))
+-- what the reader answers of a file with so many offsets, neighbors and workloads lent
+abbrev pub answerOf : List ℕ → ℕ → ℕ → ℕ → Read
+answerOf b offsetsLength neighborsLength workloadsLength =
+    let cause = readerCause b offsetsLength neighborsLength workloadsLength in
+    cond (eqb cause 0) (Site (sizesOf b)) (Refused cause)
 
 -- the reader's answer as its number and seven numbers, all 0 on a refusal; what it writes is the reader's own promise
-pub record ReadAsNumbers (b offsets neighbors offsets′ neighbors′ header′ : List ℕ) (r : ℕ) : Type 0 where
-  pub number : r ≡ readNumber (answerOf b (length offsets) (length neighbors))
-  pub header : header′ ≡ headerOf (readSizes (answerOf b (length offsets) (length neighbors)))
-  pub lists : FileRead b offsets neighbors offsets′ neighbors′ (answerOf b (length offsets) (length neighbors))
+pub record ReadAsNumbers (b offsets neighbors workloads offsets′ neighbors′ workloads′ header′ : List ℕ) (r : ℕ) : Type 0 where
+  pub number : r ≡ readNumber (answerOf b (length offsets) (length neighbors) (length workloads))
+  pub header : header′ ≡ headerOf (readSizes (answerOf b (length offsets) (length neighbors) (length workloads)))
+  pub lists : FileRead b offsets neighbors workloads offsets′ neighbors′ workloads′ (answerOf b (length offsets) (length neighbors) (length workloads))

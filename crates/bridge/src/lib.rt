@@ -14,6 +14,7 @@ ghost use Rattle.links.specs.Lists.{at};
 ghost use Rattle.links.specs.Loads.{loadCap, minimumLoad};
 ghost use Rattle.links.specs.Options.{optionsCause};
 ghost use Rattle.links.specs.Graph.{owned, neighborsCause, neighborsOf, listsCause};
+ghost use Rattle.links.specs.Workloads.{workloadsCause};
 ghost use Rattle.links.specs.Owners.{fromOwners, ownerCause, countCause};
 ghost use Rattle.multilevel.specs.File.{fileCause};
 ghost use Rattle.multilevel.specs.Causes.{callOf};
@@ -127,6 +128,14 @@ pub extern "C" fn bridge_lists_cause(offsets: &[u32], neighbors: &[u32]) -> u32
 
 // 0, or the refusal.
 #[no_mangle]
+pub extern "C" fn bridge_workloads_cause(workloads: &[u32], n: u64) -> u32
+    ensures { λ r. ⌜ r ≡ workloadsCause n (now (workloads .entry)) ⌝ }
+{
+    links::workloads_cause(workloads, n as usize)
+}
+
+// 0, or the refusal.
+#[no_mangle]
 pub extern "C" fn bridge_link_file_cause(file: &[u8]) -> u32
     ensures { λ r. ⌜ r ≡ fileCause (now (file .entry)) ⌝ }
 {
@@ -155,12 +164,13 @@ pub extern "C" fn bridge_read_link_file(
     file: &[u8],
     offsets: &mut [u32],
     neighbors: &mut [u32],
+    workloads: &mut [u32],
     header: &mut [u64; 7],
 ) -> u32
-    ensures { λ r. ⌜ ReadAsNumbers (now (file .entry)) (now (offsets .entry)) (now (neighbors .entry)) (now (offsets .exit)) (now (neighbors .exit)) (now (header .exit)) r ⌝ }
+    ensures { λ r. ⌜ ReadAsNumbers (now (file .entry)) (now (offsets .entry)) (now (neighbors .entry)) (now (workloads .entry)) (now (offsets .exit)) (now (neighbors .exit)) (now (workloads .exit)) (now (header .exit)) r ⌝ }
 {
     *header = [0; 7];
-    let read = multilevel::read_link_file(file, offsets, neighbors);
+    let read = multilevel::read_link_file(file, offsets, neighbors, workloads);
     let Read::Site(sizes) = read else {
         return read.number();
     };
@@ -189,13 +199,14 @@ fn numbers_of(s: AbtmMultilevelStats) -> [u64; 8]
 pub extern "C" fn bridge_divide(
     offsets: &[u32],
     neighbors: &[u32],
+    workloads: &[u32],
     ranks: u32,
     options: &[u64; 4],
     owners: &mut [u32],
     work: &mut [u32],
     stats: &mut [u64; 8],
 ) -> u32
-    ensures { λ r. ⌜ DividedAsNumbers (callOf (now (offsets .entry)) (now (neighbors .entry)) ranks (optionsFrom (now (options .entry))) (length (now (owners .entry))) (length (now (work .entry)))) (now (owners .entry)) (now (owners .exit)) (now (work .entry)) (now (work .exit)) (now (stats .exit)) r ⌝ }
+    ensures { λ r. ⌜ DividedAsNumbers (callOf (now (offsets .entry)) (now (neighbors .entry)) (now (workloads .entry)) ranks (optionsFrom (now (options .entry))) (length (now (owners .entry))) (length (now (work .entry)))) (now (owners .entry)) (now (owners .exit)) (now (work .entry)) (now (work .exit)) (now (stats .exit)) r ⌝ }
 {
     let chosen = AbtmMultilevelOptions {
         max_levels: options[0],
@@ -204,7 +215,15 @@ pub extern "C" fn bridge_divide(
         refinement_passes: options[3],
     };
     *stats = [0; 8];
-    let a = multilevel::abtm_multilevel_partition(offsets, neighbors, ranks, chosen, owners, work);
+    let a = multilevel::abtm_multilevel_partition(
+        offsets,
+        neighbors,
+        workloads,
+        ranks,
+        chosen,
+        owners,
+        work,
+    );
     let Answer::Divided(s) = a else {
         return a.number();
     };

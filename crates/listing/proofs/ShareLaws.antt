@@ -14,7 +14,7 @@ use Rattle.links.proofs.PackLaws.{length-offsets}
 use Rattle.multilevel.specs.Causes.{Call}
 use Rattle.multilevel.specs.Division.{Outcome, refused, divided, division}
 use Rattle.multilevel.specs.Contract.{answerNumber, answerOf, ownersAfter, Partitioned}
-use Rattle.multilevel.specs.File.{sizesOf, vertexCountOf, linkCountOf, fileRows, fileOffsets, fileNeighbors, fileCause, readerCause, readNumber, FileRead}
+use Rattle.multilevel.specs.File.{sizesOf, vertexCountOf, linkCountOf, fileRows, fileOffsets, fileNeighbors, fileWorkloads, fileCause, readerCause, readNumber, FileRead}
 use Rattle.multilevel.specs.declared.file.Sizes.{Sizes}
 use Rattle.multilevel.specs.declared.file.Read.{Read}
 use Rattle.multilevel.specs.declared.file.Read.the-variants.{Site, Refused}
@@ -22,6 +22,7 @@ use Rattle.multilevel.specs.declared.driver.Answer.{Answer}
 use Rattle.multilevel.specs.declared.driver.Answer.the-variants.{Divided, Refused as Declined}
 use Rattle.multilevel.proofs.FileLaws.{accepted}
 use Rattle.multilevel.proofs.FileRowLaws.{length-file, length-entries}
+use Rattle.multilevel.proofs.FileWorkloadLaws.{length-workloads}
 use Rattle.listing.specs.Text.{Told}
 use Rattle.listing.specs.Listing.{siteText, refusalText}
 use Rattle.listing.specs.Share.{outcomeText, callText, fileText}
@@ -86,51 +87,58 @@ refused-text k o number e = rw e
 
 -- ---- what the reader told
 
--- a file that was read: its sizes, and the parts of the two slices that hold its lists
-pub record SiteRead (b offsets neighbors : List ℕ) (s : Sizes) : Type 0 where
+-- a file that was read: its sizes, and the parts of the three slices that hold its lists and its workloads
+pub record SiteRead (b offsets neighbors workloads : List ℕ) (s : Sizes) : Type 0 where
   pub accepts : fileCause b ≡ 0
   pub sizes : s ≡ sizesOf b
   pub few : s .vertices ≤ 64
   pub offsets-fit : s .vertices + 1 ≤ length offsets
   pub neighbors-fit : 2 * s .links ≤ length neighbors
+  pub workloads-fit : s .vertices ≤ length workloads
   pub offsets-are : take (s .vertices + 1) offsets ≡ fileOffsets b
   pub neighbors-are : take (2 * s .links) neighbors ≡ fileNeighbors b
+  pub workloads-are : take (s .vertices) workloads ≡ fileWorkloads b
 
-reader-file : (b : List ℕ) (m n : ℕ) → readerCause b m n ≡ 0 → fileCause b ≡ 0
+reader-file : (b : List ℕ) (l m n : ℕ) → readerCause b l m n ≡ 0 → fileCause b ≡ 0
 unfolding readerCause
-reader-file b m n z =
+reader-file b l m n z =
     split (eqb (fileCause b) 0)
     (λ p. eqb-true (fileCause b) 0 p)
     (λ p. rw p at z)
 
--- 65 offsets and 256 neighbors are enough for any file
-reader-enough : (b : List ℕ) → readerCause b 65 256 ≡ fileCause b
+-- 65 offsets, 256 neighbors and 64 workloads are enough for any file
+reader-enough : (b : List ℕ) → readerCause b 65 256 64 ≡ fileCause b
 unfolding readerCause
 reader-enough b =
     split (eqb (fileCause b) 0)
     (λ p.
     let z = eqb-true (fileCause b) 0 p in
     let a = accepted b z in
-    rw (p, le-ltb 65 (vertexCountOf b + 1) (omega (arith, a .vertices)), le-ltb 256 (2 * linkCountOf b) (omega (arith, a .sized .few))) (sym z))
+    rw (
+      p,
+      le-ltb 65 (vertexCountOf b + 1) (omega (arith, a .vertices)),
+      le-ltb 256 (2 * linkCountOf b) (omega (arith, a .sized .few)),
+      le-ltb 64 (vertexCountOf b) (omega (arith, a .vertices)),
+    ) (sym z))
     (λ p. rw p)
 
-module _ {b o n o′ n′ : List ℕ} {r : Read} (f : FileRead b o n o′ n′ r) where
-  reader-zero : (s : Sizes) → r ≡ Site s → (readerCause b (length o) (length n) ≡ 0) × (s ≡ sizesOf b)
+module _ {b o n w o′ n′ w′ : List ℕ} {r : Read} (f : FileRead b o n w o′ n′ w′ r) where
+  reader-zero : (s : Sizes) → r ≡ Site s → (readerCause b (length o) (length n) (length w) ≡ 0) × (s ≡ sizesOf b)
   reader-zero s e =
-      split (eqb (readerCause b (length o) (length n)) 0)
+      split (eqb (readerCause b (length o) (length n) (length w)) 0)
       (λ p.
       let q : r ≡ Site (sizesOf b) = rw p at (f .answer) in
-      (eqb-true (readerCause b (length o) (length n)) 0 p, cc))
+      (eqb-true (readerCause b (length o) (length n) (length w)) 0 p, cc))
       (λ p.
-      let q : r ≡ Refused (readerCause b (length o) (length n)) = rw p at (f .answer) in
+      let q : r ≡ Refused (readerCause b (length o) (length n) (length w)) = rw p at (f .answer) in
       let z : _≡_ {A = ℕ} 0 1 = cc in
       absurd (omega arith))
 
-  pub site-read : (s : Sizes) → r ≡ Site s → SiteRead b o′ n′ s
+  pub site-read : (s : Sizes) → r ≡ Site s → SiteRead b o′ n′ w′ s
   unfolding sizesOf
   site-read s e =
       let d = reader-zero s e in
-      let z = reader-file b (length o) (length n) (d .0) in
+      let z = reader-file b (length o) (length n) (length w) (d .0) in
       let a = accepted b z in
       let ev : s .vertices ≡ vertexCountOf b = ap (λ (x : Sizes). x .vertices) (d .1) in
       let el : s .links ≡ linkCountOf b = ap (λ (x : Sizes). x .links) (d .1) in
@@ -138,22 +146,26 @@ module _ {b o n o′ n′ : List ℕ} {r : Read} (f : FileRead b o n o′ n′ r
       let ln : length (fileNeighbors b) ≡ 2 * s .links = omega (arith, length-entries b (a .links)) in
       let eo = f .offsets-written (d .0) in
       let en = f .neighbors-written (d .0) in
+      let ew = f .workloads-written (d .0) in
+      let lw : length (fileWorkloads b) ≡ s .vertices = length-workloads b ∙ sym ev in
       record {
         accepts = z;
         sizes = d .1;
         few = omega (arith, a .vertices);
         offsets-fit = omega (arith, ap length eo, length-append (fileOffsets b) (drop (vertexCountOf b + 1) o));
         neighbors-fit = omega (arith, ap length en, length-append (fileNeighbors b) (drop (2 * linkCountOf b) n));
+        workloads-fit = omega (arith, ap length ew, length-append (fileWorkloads b) (drop (vertexCountOf b) w));
         offsets-are = ap (take (s .vertices + 1)) eo ∙ take-at (fileOffsets b) (drop (vertexCountOf b + 1) o) (s .vertices + 1) lo;
         neighbors-are = ap (take (2 * s .links)) en ∙ take-at (fileNeighbors b) (drop (2 * linkCountOf b) n) (2 * s .links) ln;
+        workloads-are = ap (take (s .vertices)) ew ∙ take-at (fileWorkloads b) (drop (vertexCountOf b) w) (s .vertices) lw;
       }
 
   -- with enough lent, a refusal is the file's own
   pub file-refused
-      : (m number : ℕ) → r ≡ Refused m → number ≡ readNumber r → length o ≡ 65 → length n ≡ 256 → refusalText number ≡ fileText b
+      : (m number : ℕ) → r ≡ Refused m → number ≡ readNumber r → length o ≡ 65 → length n ≡ 256 → length w ≡ 64 → refusalText number ≡ fileText b
   unfolding fileText
-  file-refused m number e k ho hn =
-      let same : readerCause b (length o) (length n) ≡ fileCause b = rw (ho, hn) (reader-enough b) in
+  file-refused m number e k ho hn hw =
+      let same : readerCause b (length o) (length n) (length w) ≡ fileCause b = rw (ho, hn, hw) (reader-enough b) in
       split (eqb (fileCause b) 0)
       (λ p.
       let t : r ≡ Site (sizesOf b) = rw (same, p) at (f .answer) in
@@ -162,10 +174,10 @@ module _ {b o n o′ n′ : List ℕ} {r : Read} (f : FileRead b o n o′ n′ r
       (λ p. let i : number ≡ fileCause b = k ∙ f .number ∙ same in rw (p, i))
 
 pub site-text
-    : {b offsets neighbors : List ℕ} {s : Sizes} (n e : ℕ)
-    → SiteRead b offsets neighbors s
+    : {b offsets neighbors workloads : List ℕ} {s : Sizes} (n e : ℕ)
+    → SiteRead b offsets neighbors workloads s
     → n ≡ s .vertices
     → e ≡ s .links
-    → callText (take (n + 1) offsets) (take (2 * e) neighbors) s ≡ fileText b
+    → callText (take (n + 1) offsets) (take (2 * e) neighbors) (take n workloads) s ≡ fileText b
 unfolding fileText
-site-text {b} n e r hn he = rw (hn, he, r .offsets-are, r .neighbors-are, r .sizes, eq-eqb (fileCause b) 0 (r .accepts))
+site-text {b} n e r hn he = rw (hn, he, r .offsets-are, r .neighbors-are, r .workloads-are, r .sizes, eq-eqb (fileCause b) 0 (r .accepts))

@@ -4,7 +4,7 @@ use mathlib.Core.Bool.{cond}
 use mathlib.Core.List.{List}
 use lib.Dec.{eqb}
 use Rattle.multilevel.specs.declared.file.Sizes.{Sizes}
-use Rattle.multilevel.specs.File.{sizesOf, fileOffsets, fileNeighbors, fileCause}
+use Rattle.multilevel.specs.File.{sizesOf, fileOffsets, fileNeighbors, fileWorkloads, fileCause}
 use Rattle.multilevel.specs.Causes.{callOf}
 use Rattle.multilevel.specs.Division.{Outcome, refused, divided, division}
 use Rattle.listing.specs.Listing.{siteText, refusalText, siteRoom}
@@ -21,15 +21,15 @@ unfoldable pub outcomeText : ℕ → Outcome → List ℕ
 outcomeText k (refused number) = refusalText number
 outcomeText k (divided owners s) = siteText k owners s
 
--- the text of the division of a site with these lists, sizes and options
-unfoldable pub callText : List ℕ → List ℕ → Sizes → List ℕ
-callText offsets neighbors s =
-    outcomeText (s .ranks) (division (callOf offsets neighbors (s .ranks) (s .options) lentOwners lentWork) .outcome)
+-- the text of the division of a site with these lists, workloads, sizes and options
+unfoldable pub callText : List ℕ → List ℕ → List ℕ → Sizes → List ℕ
+callText offsets neighbors workloads s =
+    outcomeText (s .ranks) (division (callOf offsets neighbors workloads (s .ranks) (s .options) lentOwners lentWork) .outcome)
 
 -- the text of a file: its refusal, or the division of the site that it describes
 unfoldable pub fileText : List ℕ → List ℕ
 fileText b =
-    let site = callText (fileOffsets b) (fileNeighbors b) (sizesOf b) in
+    let site = callText (fileOffsets b) (fileNeighbors b) (fileWorkloads b) (sizesOf b) in
     cond (eqb (fileCause b) 0) site (refusalText (fileCause b))
 
 -- the bytes that hold the text of any file

@@ -15,15 +15,29 @@ use multilevel::abtm_multilevel_partition;
 use multilevel::read_link_file;
 
 // The text of a site's division.
-fn tell_division(offsets: &[u32], neighbors: &[u32], s: Sizes, text: &mut [u8]) -> usize
+fn tell_division(
+    offsets: &[u32],
+    neighbors: &[u32],
+    workloads: &[u32],
+    s: Sizes,
+    text: &mut [u8],
+) -> usize
     requires { ⌜ (length (now offsets) ≡ s .vertices + 1) × (s .vertices ≤ 64) × (shareRoom ≤ length (now text)) ⌝ }
-    ensures { λ r. ⌜ Told (callText (now (offsets .entry)) (now (neighbors .entry)) s) shareRoom (now (text .entry)) (now (text .exit)) r ⌝ }
+    ensures { λ r. ⌜ Told (callText (now (offsets .entry)) (now (neighbors .entry)) (now (workloads .entry)) s) shareRoom (now (text .entry)) (now (text .exit)) r ⌝ }
 {
     let mut owners = [0u32; 64];
     let mut work = [0u32; 15396];
     let n = index(s.vertices);
     let options = s.options;
-    let a = abtm_multilevel_partition(offsets, neighbors, s.ranks, options, &mut owners, &mut work);
+    let a = abtm_multilevel_partition(
+        offsets,
+        neighbors,
+        workloads,
+        s.ranks,
+        options,
+        &mut owners,
+        &mut work,
+    );
     let Answer::Divided(stats) = a else {
         return write_refusal(text, a.number());
     };
@@ -41,11 +55,12 @@ pub fn share(file: &[u8], text: &mut [u8]) -> usize
     }
     let mut offsets = [0u32; 65];
     let mut neighbors = [0u32; 256];
-    let read = read_link_file(file, &mut offsets, &mut neighbors);
+    let mut workloads = [0u32; 64];
+    let read = read_link_file(file, &mut offsets, &mut neighbors, &mut workloads);
     let Read::Site(s) = read else {
         return write_refusal(text, read.number());
     };
-    let n = index(s.vertices) + 1;
+    let n = index(s.vertices);
     let m = 2 * index(s.links);
-    tell_division(&offsets[..n], &neighbors[..m], s, text)
+    tell_division(&offsets[..n + 1], &neighbors[..m], &workloads[..n], s, text)
 }

@@ -32,17 +32,17 @@ as-numbers p number-is stats-are =
           };
     }
 
-element-copy-out-t13 : tie.Need-element-copy-out-t13
-element-copy-out-t13 c = search needs
+element-copy-out-t14 : tie.Need-element-copy-out-t14
+element-copy-out-t14 c = search needs
 
-element-copy-out-t16 : tie.Need-element-copy-out-t16
-element-copy-out-t16 c = search needs
+element-copy-out-t17 : tie.Need-element-copy-out-t17
+element-copy-out-t17 c = search needs
 
-element-copy-out-t19 : tie.Need-element-copy-out-t19
-element-copy-out-t19 c = search needs
+element-copy-out-t20 : tie.Need-element-copy-out-t20
+element-copy-out-t20 c = search needs
 
-element-copy-out-t22 : tie.Need-element-copy-out-t22
-element-copy-out-t22 c = search needs
+element-copy-out-t23 : tie.Need-element-copy-out-t23
+element-copy-out-t23 c = search needs
 
 abtm-multilevel-partition-requires : tie.Need-abtm-multilevel-partition-requires
 abtm-multilevel-partition-requires c κs = search needs
@@ -90,10 +90,10 @@ pub bridge-divide-spec : {M : Type 1} → statement M
 bridge-divide-spec =
     tie.close
     (tie.spec
-    element-copy-out-t13
-    element-copy-out-t16
-    element-copy-out-t19
-    element-copy-out-t22
+    element-copy-out-t14
+    element-copy-out-t17
+    element-copy-out-t20
+    element-copy-out-t23
     abtm-multilevel-partition-requires
     enum-known-a
     enum-told

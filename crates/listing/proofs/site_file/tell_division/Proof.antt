@@ -43,10 +43,10 @@ returns c =
     let c3 = c2 .before in
     let c5 = c3 .before .before in
     let c9 = c5 .before .before .before .before in
-    let c17 = c9 .before .before .before .before .before .before .before .before in
+    let c18 = c9 .before .before .before .before .before .before .before .before .before in
     let p = c9 .abtm-multilevel-partition .ensures in
-    told-as (with-room (c2 .write-refusal .ensures) shareRoom (omega arith) (c17 .pre .2))
-    (refused-text (c17 .args .s .ranks) _ _ (refusal-told p _ _ (c5 .enum-told .given .1) (c3 .number .ensures)))
+    told-as (with-room (c2 .write-refusal .ensures) shareRoom (omega arith) (c18 .pre .2))
+    (refused-text (c18 .args .s .ranks) _ _ (refusal-told p _ _ (c5 .enum-told .given .1) (c3 .number .ensures)))
 
 array-share-prefix-owners : tie.Need-array-share-prefix-owners
 array-share-prefix-owners c = search needs
@@ -56,9 +56,9 @@ slice-aggregate-write-site c =
     let c3 = c .before .before .before in
     let c7 = c3 .before .before .before .before in
     let n = c7 .before .before .before .before .index in
-    let c15 = c7 .before .before .before .before .before .before .before .before in
+    let c16 = c7 .before .before .before .before .before .before .before .before .before in
     owners-told (c7 .abtm-multilevel-partition .ensures) (c3 .a .given .0 .0) (n .result) (c3 .a .given .1)
-    (c15 .pre .0 ∙ ap (λ (x : ℕ). x + 1) (sym (n .ensures))) .0
+    (c16 .pre .0 ∙ ap (λ (x : ℕ). x + 1) (sym (n .ensures))) .0
 
 write-site-requires : tie.Need-write-site-requires
 write-site-requires c κs = search needs
@@ -73,12 +73,12 @@ returns-2 c =
     let c6 = c2 .before .before .before .before in
     let c10 = c6 .before .before .before .before in
     let n = c10 .before .before .before .before .index in
-    let c18 = c10 .before .before .before .before .before .before .before .before in
+    let c19 = c10 .before .before .before .before .before .before .before .before .before in
     let p = c10 .abtm-multilevel-partition .ensures in
     let d =
-    owners-told p (c6 .a .given .0 .0) (n .result) (c6 .a .given .1) (c18 .pre .0 ∙ ap (λ (x : ℕ). x + 1) (sym (n .ensures))) in
-    told-as (with-room (c2 .write-site .ensures) shareRoom (omega (arith, d .0, n .ensures, c18 .pre .1)) (c18 .pre .2))
-    (divided-text (c18 .args .s .ranks) _ _ _ (d .1))
+    owners-told p (c6 .a .given .0 .0) (n .result) (c6 .a .given .1) (c19 .pre .0 ∙ ap (λ (x : ℕ). x + 1) (sym (n .ensures))) in
+    told-as (with-room (c2 .write-site .ensures) shareRoom (omega (arith, d .0, n .ensures, c19 .pre .1)) (c19 .pre .2))
+    (divided-text (c19 .args .s .ranks) _ _ _ (d .1))
 
 pub tell-division-spec : {M : Type 1} → statement M
 tell-division-spec =
