@@ -1,9 +1,10 @@
-// Where the Rust stands, and the oracle in force (changes.rs) as a file.
+// Where the Rust stands, and as files the oracle in force (changes.rs), and the Rust with request P1 alone.
 include!("changes.rs");
 
 fn main() {
     println!("cargo:rerun-if-changed=changes.rs");
     println!("cargo:rustc-env=RUST_SRC={}", sources().display());
-    let out = PathBuf::from(std::env::var_os("OUT_DIR").unwrap()).join("in_force.rs");
-    std::fs::write(out, in_force()).unwrap();
+    let out = PathBuf::from(std::env::var_os("OUT_DIR").unwrap());
+    std::fs::write(out.join("in_force.rs"), in_force()).unwrap();
+    std::fs::write(out.join("p1_alone.rs"), with(&["P1"])).unwrap();
 }

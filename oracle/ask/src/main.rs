@@ -5,6 +5,7 @@
 //! The site is text, in lines (a ; ends a line too; what follows a # is left out):
 //!     n k L per t passes       vertices, ranks, max_levels, coarse_vertices_per_rank, imbalance_per_mille, refinement_passes
 //!     a b                      a link, once, in either order; as many lines as there are links
+//!     workloads 3 1 2 1        one for each vertex; without this line each is 1
 //!
 //! It prints `refused NUMBER`, or
 //!     owners 0 0 1 1
@@ -13,7 +14,7 @@
 //!
 //! From oracle/: HIPSTERN_RUST_SRC=.. cargo run -q --release -p ask -- --trace < site
 use reference::answers::{Options, partition};
-use reference::sites::Site;
+use reference::sites::{Question, Site};
 use reference::trace::{Trace, trace};
 use std::io::Read;
 
@@ -25,22 +26,10 @@ fn main() {
     };
     let mut text = String::new();
     std::io::stdin().read_to_string(&mut text).unwrap_or_else(|e| stop(&e.to_string()));
-    let lines = text.lines().flat_map(|line| line.split('#').next().unwrap_or("").split(';'));
-    let lines: Vec<_> = lines.map(numbers).filter(|line| !line.is_empty()).collect();
-    let Some((first, rest)) = lines.split_first() else { stop("no line") };
-    let &[n, k, max_levels, coarse_vertices_per_rank, imbalance_per_mille, refinement_passes] = first.as_slice() else {
-        stop("the first line is n k L per t passes")
-    };
-    let links = rest.iter().map(|line| match line.as_slice() {
-        &[a, b] if a < n && b < n => (a as usize, b as usize),
-        _ => stop(&format!("no link between two vertices below {n}: {line:?}")),
-    });
-    let site = Site::new(n as usize, &links.collect::<Vec<_>>());
-    let options = Options { max_levels, coarse_vertices_per_rank, imbalance_per_mille, refinement_passes };
-    let ranks = u32::try_from(k).unwrap_or_else(|_| stop("k is above 2^32 - 1"));
-    let answer = partition(&site.offsets, &site.neighbors, ranks, options);
-    if traced && !matches!(answer, Err(1..=5)) {
-        print_stages(&trace(&site.rows(), ranks, options));
+    let question = question(&text);
+    let answer = partition(&question);
+    if traced && !matches!(answer, Err(1..=5 | 13)) {
+        print_stages(&trace(&question));
     }
     match answer {
         Err(number) => println!("refused {number}"),
@@ -49,6 +38,35 @@ fn main() {
             println!("stats {}", words(&stats));
         }
     }
+}
+
+fn question(text: &str) -> Question {
+    let lines = text.lines().flat_map(|line| line.split('#').next().unwrap_or("").split(';')).map(str::trim);
+    let (loads, lines): (Vec<_>, Vec<_>) =
+        lines.filter(|line| !line.is_empty()).partition(|line| line.starts_with("workloads"));
+    let lines: Vec<_> = lines.into_iter().map(numbers).collect();
+    let Some((first, rest)) = lines.split_first() else { stop("no line") };
+    let &[n, k, ref options @ ..] = first.as_slice() else { stop(FIRST) };
+    let links = rest.iter().map(|line| match line.as_slice() {
+        &[a, b] if a < n && b < n => (a as usize, b as usize),
+        _ => stop(&format!("no link between two vertices below {n}: {line:?}")),
+    });
+    let site = Site::new(n as usize, &links.collect::<Vec<_>>());
+    let ranks = u32::try_from(k).unwrap_or_else(|_| stop("k is above 2^32 - 1"));
+    let options = options.try_into().unwrap_or_else(|_| stop(FIRST));
+    let question = Question::new(site, ranks, Options::of(options));
+    match loads.as_slice() {
+        [] => question,
+        [line] => question.weighed(workloads(line)),
+        _ => stop("workloads twice"),
+    }
+}
+
+const FIRST: &str = "the first line is n k L per t passes";
+
+fn workloads(line: &str) -> Vec<u32> {
+    let narrow = |w: u64| u32::try_from(w).unwrap_or_else(|_| stop("a workload is above 2^32 - 1"));
+    numbers(line.trim_start_matches("workloads")).into_iter().map(narrow).collect()
 }
 
 fn numbers(line: &str) -> Vec<u64> {

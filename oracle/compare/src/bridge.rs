@@ -1,9 +1,18 @@
 //! The exported functions of crate bridge. A slice passes as pointer and length.
+use reference::answers::Options;
+use reference::sites::Site;
 
 /// A shared slice as the archive takes it.
 macro_rules! lent {
     ($s:expr) => {
         ($s.as_ptr(), $s.len())
+    };
+}
+
+/// A slice that is lent to be written.
+macro_rules! lent_mut {
+    ($s:expr) => {
+        ($s.as_mut_ptr(), $s.len())
     };
 }
 
@@ -44,11 +53,14 @@ mod exported {
             neighbors: *const u32,
             neighbors_len: usize,
         ) -> u32;
+        pub fn bridge_workloads_cause(workloads: *const u32, workloads_len: usize, n: u64) -> u32;
         pub fn bridge_divide(
             offsets: *const u32,
             offsets_len: usize,
             neighbors: *const u32,
             neighbors_len: usize,
+            workloads: *const u32,
+            workloads_len: usize,
             ranks: u32,
             options: *const [u64; 4],
             owners: *mut u32,
@@ -65,6 +77,8 @@ mod exported {
             offsets_len: usize,
             neighbors: *mut u32,
             neighbors_len: usize,
+            workloads: *mut u32,
+            workloads_len: usize,
             header: *mut [u64; 7],
         ) -> u32;
     }
@@ -82,7 +96,7 @@ pub fn minimum_load(total: u64, ranks: u32, t: u32) -> u64 {
     unsafe { bridge_minimum_load(total, ranks, t) }
 }
 
-pub fn validate(o: reference::answers::Options) -> u32 {
+pub fn validate(o: Options) -> u32 {
     unsafe { bridge_validate(o.max_levels, o.coarse_vertices_per_rank, o.imbalance_per_mille, o.refinement_passes) }
 }
 
@@ -125,27 +139,38 @@ pub fn link_file_cause(file: &[u8]) -> u32 {
     unsafe { bridge_link_file_cause(p, n) }
 }
 
+pub fn workloads_cause(workloads: &[u32], n: u64) -> u32 {
+    let (p, len) = lent!(workloads);
+    unsafe { bridge_workloads_cause(p, len, n) }
+}
+
 /// The number and the header's seven, which are not 0 before the call.
-pub fn read_link_file(file: &[u8], offsets: &mut [u32], neighbors: &mut [u32]) -> (u32, [u64; 7]) {
+pub fn read_link_file(
+    file: &[u8],
+    offsets: &mut [u32],
+    neighbors: &mut [u32],
+    workloads: &mut [u32],
+) -> (u32, [u64; 7]) {
     let (p, n) = lent!(file);
-    let ((op, on), (np, nn)) = ((offsets.as_mut_ptr(), offsets.len()), (neighbors.as_mut_ptr(), neighbors.len()));
+    let ((op, on), (np, nn), (wp, wn)) = (lent_mut!(offsets), lent_mut!(neighbors), lent_mut!(workloads));
     let mut header = [77; 7];
-    let number = unsafe { bridge_read_link_file(p, n, op, on, np, nn, &mut header) };
+    let number = unsafe { bridge_read_link_file(p, n, op, on, np, nn, wp, wn, &mut header) };
     (number, header)
 }
 
 /// The number and the eight stats, which are not 0 before the call.
 pub fn divide(
-    offsets: &[u32],
-    neighbors: &[u32],
+    site: &Site,
+    workloads: &[u32],
     ranks: u32,
-    o: reference::answers::Options,
+    options: Options,
     owners: &mut [u32],
     work: &mut [u32],
 ) -> (u32, [u64; 8]) {
-    let ((op, on), (np, nn)) = (lent!(offsets), lent!(neighbors));
+    let ((op, on), (np, nn), (lp, ln)) = (lent!(site.offsets), lent!(site.neighbors), lent!(workloads));
+    let ((rp, rn), (wp, wn)) = (lent_mut!(owners), lent_mut!(work));
     let mut stats = [77; 8];
-    let (rp, rn, wp, wn) = (owners.as_mut_ptr(), owners.len(), work.as_mut_ptr(), work.len());
-    let number = unsafe { bridge_divide(op, on, np, nn, ranks, &o.numbers(), rp, rn, wp, wn, &mut stats) };
+    let number =
+        unsafe { bridge_divide(op, on, np, nn, lp, ln, ranks, &options.numbers(), rp, rn, wp, wn, &mut stats) };
     (number, stats)
 }

@@ -2,13 +2,13 @@
 use crate::bridge;
 use crate::byhand;
 use crate::report::{Check, Report};
-use reference::answers::{Options, lent_needs, partition_lent, vertex_count};
+use reference::answers::{MAX_WORKLOAD, Options, lent_needs, lists_cause, partition_lent, vertex_count};
 use reference::forced;
 use reference::random::Random;
-use reference::sites::{self, Site, some_options};
+use reference::sites::{self, Question, Site, some_options, some_workloads};
 
-/// What a call answers and leaves: the number, the stats, the owner slice, and whether the work slice and all guards are as they
-/// should be.
+/// What a call answers and leaves: the number, the stats, the owner slice, and whether the work slice, the workloads and all guards
+/// are as they should be.
 type Left = (u32, [u64; 8], Vec<u32>, bool);
 
 /// A slice to lend, between two rows of guard numbers.
@@ -32,15 +32,8 @@ impl Guarded {
 }
 
 /// One call of both, with `owners_more` and `work_more` numbers lent beyond what is needed (or fewer): the moves and swaps made.
-fn compare_one(
-    check: &mut Check,
-    random: &mut Random,
-    site: &Site,
-    ranks: u32,
-    options: Options,
-    owners_more: i64,
-    work_more: i64,
-) -> u64 {
+fn compare_one(check: &mut Check, random: &mut Random, question: &Question, owners_more: i64, work_more: i64) -> u64 {
+    let &Question { ref site, ref workloads, ranks, options } = question;
     let (n, m) = (vertex_count(&site.offsets), site.neighbors.len());
     // what is out of the limits is lent little: it is refused before
     let within = n <= 16_384 && m <= 131_072 && ranks <= 256 && options.max_levels <= 32;
@@ -50,14 +43,16 @@ fn compare_one(
     let was = |i: usize| (i as u32).wrapping_mul(2_654_435_761) | 1;
     let work_lent = lent(work_need, work_more);
     let mut work = Guarded::new((0..work_lent).map(was));
+    let mut loads = Guarded::new(workloads.iter().copied());
     let owners_before = owners.lent().to_vec();
 
-    let (number, stats) = bridge::divide(&site.offsets, &site.neighbors, ranks, options, owners.lent(), work.lent());
-    let zeroed = if (1..=5).contains(&number) { 0 } else { work_need };
+    let (number, stats) = bridge::divide(site, loads.lent(), ranks, options, owners.lent(), work.lent());
+    let zeroed = if matches!(number, 1..=5 | 13) { 0 } else { work_need };
     let kept = work.lent().iter().enumerate().all(|(i, &x)| x == if i < zeroed { 0 } else { was(i) });
-    let ours: Left = (number, stats, owners.lent().to_vec(), kept && owners.untouched() && work.untouched());
+    let guarded = [&owners, &work, &loads].iter().all(|slice| slice.untouched());
+    let ours: Left = (number, stats, owners.lent().to_vec(), kept && guarded && loads.lent() == workloads);
 
-    let rust = partition_lent(&site.offsets, &site.neighbors, ranks, options, owners_before.len(), work_lent);
+    let rust = partition_lent(question, owners_before.len(), work_lent);
     let expected: Left = match rust {
         Ok((written, stats)) => {
             let mut after = owners_before;
@@ -67,30 +62,35 @@ fn compare_one(
         Err(number) => (number, [0; 8], owners_before, true),
     };
     let moves = expected.1[5];
-    check.same(expected.0, ours, expected, || site.question(ranks, options));
+    let sound = || lists_cause(&site.offsets, &site.neighbors) == 0;
+    check.same(expected.0, ours, expected, || if sound() { question.text() } else { format!("{question:?}") });
     moves
 }
 
-/// All graphs of up to so many vertices, all ranks, and a grid of options.
-fn small(check: &mut Check, random: &mut Random, most: usize) {
+/// Options of each max_levels, coarse_vertices_per_rank, imbalance_per_mille and refinement_passes.
+fn grid([levels, per_rank, imbalance, passes]: [&[u64]; 4]) -> Vec<Options> {
+    let mut grid = Vec::new();
+    for &max_levels in levels {
+        for &coarse_vertices_per_rank in per_rank {
+            for &imbalance_per_mille in imbalance {
+                for &refinement_passes in passes {
+                    grid.push(Options { max_levels, coarse_vertices_per_rank, imbalance_per_mille, refinement_passes });
+                }
+            }
+        }
+    }
+    grid
+}
+
+/// All graphs of up to so many vertices, all ranks, these options, and each vertex's workload of these five.
+fn small(check: &mut Check, random: &mut Random, most: usize, grid: &[Options], workloads: [u32; 5]) {
     for n in 1..=most {
         for code in 0..1u64 << (n * (n - 1) / 2) {
             let site = sites::numbered(n, code);
             for ranks in 1..=n as u32 {
-                for max_levels in [1, 2, 32] {
-                    for coarse_vertices_per_rank in [1, 2, 64] {
-                        for imbalance_per_mille in [0, 30, 200, 334, 500] {
-                            for refinement_passes in [1, 2, u64::MAX] {
-                                let options = Options {
-                                    max_levels,
-                                    coarse_vertices_per_rank,
-                                    imbalance_per_mille,
-                                    refinement_passes,
-                                };
-                                compare_one(check, random, &site, ranks, options, 1, 3);
-                            }
-                        }
-                    }
+                for &options in grid {
+                    let question = Question::new(site.clone(), ranks, options).weighed(workloads[..n].to_vec());
+                    compare_one(check, random, &question, 1, 3);
                 }
             }
         }
@@ -111,21 +111,75 @@ fn bad_options(random: &mut Random) -> Options {
     o
 }
 
+/// Workloads that 13 refuses: one is out of its range, or there are not n of them.
+fn bad_workloads(random: &mut Random, n: usize) -> Vec<u32> {
+    let mut workloads = some_workloads(random, n);
+    let stray = random.pick(&[0, MAX_WORKLOAD + 1, 1 << 16, u32::MAX]);
+    match random.below(6) {
+        0 => workloads.push(1),
+        1 => drop(workloads.pop()),
+        2 => workloads.clear(),
+        _ => workloads[random.index(n)] = stray,
+    }
+    workloads
+}
+
+/// Nothing wrong, one thing, or two.
 fn bad(check: &mut Check, random: &mut Random, count: u64) {
     for _ in 0..count {
-        let mut site = sites::any(random, 12);
-        let n = site.vertices();
-        let (mut ranks, mut options) = (1 + random.index(n.min(4)) as u32, some_options(random));
-        let (mut owners_more, mut work_more) = (random.below(3) as i64, random.below(3) as i64);
-        match random.below(6) {
-            0 => options = bad_options(random),
-            1 => ranks = random.pick(&[0, n as u32 + 1, 257, u32::MAX]),
-            2 => site = sites::damaged(random, &site),
-            3 => owners_more = -1 - random.below(n as u64) as i64,
-            4 => work_more = -1 - random.below(40) as i64,
-            _ => {}
+        let sound = sites::any(random, 12);
+        let n = sound.vertices();
+        let mut question = Question::new(sound.clone(), 1 + random.index(n.min(4)) as u32, some_options(random));
+        if random.once_in(2) {
+            question.workloads = some_workloads(random, n);
         }
-        compare_one(check, random, &site, ranks, options, owners_more, work_more);
+        let (mut owners_more, mut work_more) = (random.below(3) as i64, random.below(3) as i64);
+        for _ in 0..random.below(3) {
+            match random.below(6) {
+                0 => question.options = bad_options(random),
+                1 => question.ranks = random.pick(&[0, n as u32 + 1, 257, u32::MAX]),
+                2 => question.site = sites::damaged(random, &sound),
+                3 => question.workloads = bad_workloads(random, n),
+                4 => owners_more = -1 - random.below(n as u64) as i64,
+                _ => work_more = -1 - random.below(40) as i64,
+            }
+        }
+        compare_one(check, random, &question, owners_more, work_more);
+    }
+}
+
+/// The path of four with every combination of what 1, 2, 3, 4, 13 and 5 refuse: the first of these numbers is the answer.
+fn refused_together(check: &mut Check, random: &mut Random) {
+    let most = MAX_WORKLOAD;
+    let workloads: [&[u32]; 9] = [
+        &[1; 4],
+        &[most, 1, 2, most],
+        &[0, 1, 1, 1],
+        &[1, 1, 1, 0],
+        &[most + 1, 1, 1, 1],
+        &[1, 1, 1, most + 1],
+        &[1; 3],
+        &[1; 5],
+        &[],
+    ];
+    for code in 0..16 {
+        let wrong = |cause: u32| code >> (cause - 1) & 1 == 1;
+        let mut site = sites::path(4);
+        if wrong(4) {
+            site.neighbors[0] = 2;
+        }
+        let options = Options {
+            max_levels: if wrong(3) { 33 } else { 12 },
+            coarse_vertices_per_rank: 64,
+            imbalance_per_mille: if wrong(1) { 501 } else { 500 },
+            refinement_passes: 2,
+        };
+        for loads in workloads {
+            let question = Question::new(site.clone(), if wrong(2) { 5 } else { 2 }, options).weighed(loads.to_vec());
+            for (owners_more, work_more) in [(0, 0), (-1, 0), (0, -1), (-1, -1)] {
+                compare_one(check, random, &question, owners_more, work_more);
+            }
+        }
     }
 }
 
@@ -145,39 +199,118 @@ fn forced_runs(check: &mut Check, random: &mut Random, large: bool) {
         for passes in [1, 2, 10, u64::MAX] {
             // one more vertex than the average is within the cap for 1 per mille of more than 1000 vertices
             let spare = if ranks * size > 1000 { 1 } else { 1000_u64.div_ceil((ranks * size - 1) as u64) };
-            let moves =
-                compare_one(check, random, &forced::moves(ranks, size), ranks as u32, options(spare, passes), 1, 1);
-            let swaps = compare_one(check, random, &forced::swaps(ranks, size), ranks as u32, options(0, passes), 1, 1);
-            check.made(moves + swaps);
+            let moves = Question::new(forced::moves(ranks, size), ranks as u32, options(spare, passes));
+            let swaps = Question::new(forced::swaps(ranks, size), ranks as u32, options(0, passes));
+            let heavy = swaps.clone().weighed(vec![MAX_WORKLOAD; swaps.site.vertices()]);
+            for question in [moves, swaps, heavy] {
+                let steps = compare_one(check, random, &question, 1, 1);
+                check.made(steps);
+            }
         }
     }
 }
 
-/// Fewer than two vertices for each rank and the widest balance: a move may leave a rank empty, which 9 refuses.
+/// Fewer than two vertices for each rank, of which now and then one weighs 2, and the widest balance: a move may leave a rank
+/// empty, which 9 refuses.
 fn emptied(check: &mut Check, random: &mut Random, count: u64) {
     for _ in 0..count {
         let ranks = 2 + random.index(9);
         let site = sites::any(random, 2 * ranks - 1);
-        let ranks = ranks.min(site.vertices()) as u32;
+        let n = site.vertices();
         let options = Options {
             coarse_vertices_per_rank: 64,
             imbalance_per_mille: random.between(450, 500),
             ..some_options(random)
         };
-        compare_one(check, random, &site, ranks, options, 1, 1);
+        let mut question = Question::new(site, ranks.min(n) as u32, options);
+        if random.once_in(3) {
+            question.workloads[random.index(n)] = 2;
+        }
+        compare_one(check, random, &question, 1, 1);
+    }
+}
+
+/// A random site, large now and then.
+fn some_site(random: &mut Random, i: u64) -> Question {
+    let size = if i % 200 == 0 {
+        1500
+    } else if i % 20 == 0 {
+        300
+    } else {
+        40
+    };
+    let site = sites::any(random, size);
+    let ranks = 1 + random.index(site.vertices().min(if i % 20 == 0 { 64 } else { 7 })) as u32;
+    Question::new(site, ranks, some_options(random))
+}
+
+fn weighed(check: &mut Check, random: &mut Random, count: u64) {
+    for i in 0..count {
+        let mut question = some_site(random, i);
+        question.workloads = some_workloads(random, question.site.vertices());
+        if random.once_in(2) {
+            question.options.imbalance_per_mille = random.between(100, 500);
+        }
+        let steps = compare_one(check, random, &question, 2, 5);
+        check.made(steps);
+    }
+}
+
+/// As many vertices, entries, ranks and levels as there may be, or one more; workloads that add up to 163,840,000, or one above
+/// the most.
+fn at_the_limits(check: &mut Check, random: &mut Random) {
+    let usual = Options { max_levels: 12, coarse_vertices_per_rank: 64, imbalance_per_mille: 30, refinement_passes: 2 };
+    let many =
+        Options { max_levels: 32, coarse_vertices_per_rank: 1, imbalance_per_mille: 500, refinement_passes: u64::MAX };
+    let full = sites::sparse(random, 16_384, 65_536);
+    for (site, ranks, options) in [
+        (sites::grid(128, 128), 8, usual),
+        (sites::path(16_384), 256, usual),
+        (sites::star(16_384), 2, usual),
+        (sites::path(16_385), 2, usual),
+        (sites::clique(363), 3, usual),
+        (sites::bipartite(256, 256), 256, many),
+        (full, 256, many),
+        (sites::grid(20, 20), 16, many),
+    ] {
+        let n = site.vertices();
+        let question = Question::new(site, ranks, options);
+        compare_one(check, random, &question, 1, 1);
+        let mut heavy = question.clone().weighed(vec![MAX_WORKLOAD; n]);
+        compare_one(check, random, &heavy, 0, 0);
+        heavy.workloads[n - 1] += 1;
+        compare_one(check, random, &heavy, 0, 0);
+        let any = (0..n).map(|_| random.between(1, MAX_WORKLOAD.into()) as u32).collect();
+        compare_one(check, random, &question.weighed(any), 0, 0);
+    }
+    for offsets in [vec![], vec![0]] {
+        let nothing = Question::new(Site { offsets, neighbors: vec![] }, 1, many);
+        compare_one(check, random, &nothing, 0, 0);
     }
 }
 
 pub fn compare(report: &mut Report, seed: u64, count: u64, long: bool) {
     report.check("divisions of the sites by hand", &[0, 6, 7, 8, 9], |check| {
-        for (site, ranks, options, _) in byhand::table() {
-            compare_one(check, &mut Random::new(seed), &site, ranks, Options::of(options), 0, 0);
+        for (question, _) in byhand::table() {
+            compare_one(check, &mut Random::new(seed), &question, 0, 0);
         }
     });
     let (most, name) = if long { (5, "five") } else { (4, "four") };
     report.check(&format!("divisions of all graphs of up to {name} vertices"), &[0, 6, 7, 8, 9], |check| {
-        small(check, &mut Random::new(seed), most);
+        let grid = grid([&[1, 2, 32], &[1, 2, 64], &[0, 30, 200, 334, 500], &[1, 2, u64::MAX]]);
+        small(check, &mut Random::new(seed), most, &grid, [1; 5]);
     });
+    report.check(
+        &format!("divisions of all graphs of up to {name} vertices with workloads"),
+        &[0, 6, 7, 8, 9],
+        |check| {
+            let grid = grid([&[1, 32], &[1, 64], &[0, 100, 250, 366, 500], &[1, u64::MAX]]);
+            let most_of_one = [MAX_WORKLOAD, 1, 1, 1, 1];
+            for workloads in [[5, 4, 3, 6, 2], [1, 2, 3, 4, 5], [1, 2, 1, 1, 2], [7; 5], most_of_one] {
+                small(check, &mut Random::new(seed), most, &grid, workloads);
+            }
+        },
+    );
     report.check("divisions with forced runs of moves and swaps", &[0], |check| {
         forced_runs(check, &mut Random::new(seed), long)
     });
@@ -187,49 +320,16 @@ pub fn compare(report: &mut Report, seed: u64, count: u64, long: bool) {
     report.check("divisions of random sites", &[0, 6, 7, 8], |check| {
         let mut random = Random::new(seed);
         for i in 0..count {
-            let size = if i % 200 == 0 {
-                1500
-            } else if i % 20 == 0 {
-                300
-            } else {
-                40
-            };
-            let site = sites::any(&mut random, size);
-            let ranks = 1 + random.index(site.vertices().min(if i % 20 == 0 { 64 } else { 7 })) as u32;
-            let options = some_options(&mut random);
-            compare_one(check, &mut random, &site, ranks, options, 2, 5);
+            let question = some_site(&mut random, i);
+            compare_one(check, &mut random, &question, 2, 5);
         }
     });
-    report.check("divisions of bad input", &[0, 1, 2, 3, 4, 5], |check| bad(check, &mut Random::new(seed), count));
-    report.check("divisions at the limits", &[0, 2, 3], |check| {
-        let mut random = Random::new(seed);
-        let options = |max_levels| Options {
-            max_levels,
-            coarse_vertices_per_rank: 64,
-            imbalance_per_mille: 30,
-            refinement_passes: 2,
-        };
-        for (site, ranks) in [
-            (sites::grid(128, 128), 8),
-            (sites::path(16_384), 256),
-            (sites::star(16_384), 2),
-            (sites::path(16_385), 2),
-            (sites::clique(363), 3),
-        ] {
-            compare_one(check, &mut random, &site, ranks, options(12), 1, 1);
-        }
-        let many = Options {
-            max_levels: 32,
-            coarse_vertices_per_rank: 1,
-            imbalance_per_mille: 500,
-            refinement_passes: u64::MAX,
-        };
-        let full = sites::sparse(&mut random, 16_384, 65_536);
-        for (site, ranks) in [(sites::bipartite(256, 256), 256), (full, 256), (sites::grid(20, 20), 16)] {
-            compare_one(check, &mut random, &site, ranks, many, 0, 0);
-        }
-        for site in [Site { offsets: vec![], neighbors: vec![] }, Site { offsets: vec![0], neighbors: vec![] }] {
-            compare_one(check, &mut random, &site, 1, many, 0, 0);
-        }
+    report.check("divisions of random sites with workloads", &[0, 6, 7, 8], |check| {
+        weighed(check, &mut Random::new(seed), count)
     });
+    report.check("divisions of bad input", &[0, 1, 2, 3, 4, 5, 13], |check| bad(check, &mut Random::new(seed), count));
+    report.check("divisions with several things wrong", &[0, 1, 2, 3, 4, 5, 13], |check| {
+        refused_together(check, &mut Random::new(seed))
+    });
+    report.check("divisions at the limits", &[0, 2, 3, 13], |check| at_the_limits(check, &mut Random::new(seed)));
 }

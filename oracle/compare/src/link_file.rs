@@ -1,4 +1,5 @@
-//! Rule 9: the link file's check and reader, crate multilevel, beside a reading of document 01 (reference::link_file).
+//! Rule 9 and request P1: the link file's check and reader, crate multilevel, beside a reading of documents 01 and 02
+//! (reference::link_file).
 use crate::bridge;
 use crate::report::{Check, Report};
 use reference::link_file::{self, Contents, LIMITS};
@@ -7,11 +8,13 @@ use reference::sites;
 use std::path::Path;
 
 pub fn compare(report: &mut Report, seed: u64, count: u64) {
-    report.check("link file, samples/", &[0, 3, 10], |c| samples(c, &mut Random::new(seed)));
-    report.check("link file, all small files", &[0, 10], |c| small_files(c, &mut Random::new(seed)));
-    report.check("link file, sizes about the limits", &[0, 3, 10], |c| about_limits(c, &mut Random::new(seed)));
+    report.check("link file, samples/", &[0, 3, 10, 13], |c| samples(c, &mut Random::new(seed)));
+    report.check("link file, all small files", &[0, 10, 13], |c| small_files(c, &mut Random::new(seed)));
+    report.check("link file, sizes about the limits", &[0, 3, 10, 13], |c| about_limits(c, &mut Random::new(seed)));
+    report.check("link file, every length", &[0, 10, 13], |c| every_length(c, &mut Random::new(seed)));
     report.check("link file, good files", &[0, 5], |c| good_files(c, &mut Random::new(seed), count));
-    report.check("link file, damaged files", &[0, 3, 5, 10], |c| damaged_files(c, &mut Random::new(seed), 5 * count));
+    report
+        .check("link file, damaged files", &[0, 3, 5, 10, 13], |c| damaged_files(c, &mut Random::new(seed), 5 * count));
 }
 
 // ---- one file
@@ -48,15 +51,15 @@ impl Lent {
     }
 }
 
-/// How many offsets and neighbors the header asks for, where there is one and its sizes are not beyond measure.
-fn needs(file: &[u8]) -> (usize, usize) {
+/// How many offsets, neighbors and workloads the header asks for, where there is one and its sizes are not beyond measure.
+fn needs(file: &[u8]) -> [usize; 3] {
     let size = |i: usize| link_file::numbers(file).get(i).map_or(0, |&x| x.min(300) as usize);
-    (size(0) + 1, 2 * size(1))
+    [size(0) + 1, 2 * size(1), size(0)]
 }
 
-fn shown(file: &[u8], offsets: usize, neighbors: usize) -> String {
+fn shown(file: &[u8], lent: [usize; 3]) -> String {
     let numbers = link_file::numbers(file);
-    format!("{} bytes, numbers {numbers:?}, {offsets} offsets and {neighbors} neighbors lent", file.len())
+    format!("{} bytes, numbers {numbers:?}, lent {lent:?} (offsets, neighbors, workloads)", file.len())
 }
 
 /// The check and the reader on one file, which starts anywhere in memory.
@@ -67,21 +70,21 @@ fn both(check: &mut Check, random: &mut Random, file: &[u8]) {
     let lent_file = &memory[from..from + file.len()];
 
     let cause = link_file::check(file).map_or_else(|number| number, |_| 0);
-    check.same(cause, bridge::link_file_cause(lent_file), cause, || shown(file, 0, 0));
+    check.same(cause, bridge::link_file_cause(lent_file), cause, || shown(file, [0; 3]));
 
-    let (offsets_need, neighbors_need) = needs(file);
-    let mut offsets = Lent::new(random, offsets_need);
-    let mut neighbors = Lent::new(random, neighbors_need);
-    let expected = match link_file::read(file, offsets.length, neighbors.length) {
-        Ok(Contents { header, site }) => {
-            (0, header.map(u64::from), offsets.after(&site.offsets), neighbors.after(&site.neighbors))
+    let mut lent = needs(file).map(|need| Lent::new(random, need));
+    let lengths = lent.each_ref().map(|slice| slice.length);
+    let expected = match link_file::read(file, lengths) {
+        Ok(Contents { header, site, workloads }) => {
+            let written = [site.offsets, site.neighbors, workloads];
+            (0, header.map(u64::from), std::array::from_fn(|i| lent[i].after(&written[i])))
         }
-        Err(number) => (number, [0; 7], offsets.after(&[]), neighbors.after(&[])),
+        Err(number) => (number, [0; 7], lent.each_ref().map(|slice| slice.after(&[]))),
     };
-    let (number, header) = bridge::read_link_file(lent_file, offsets.part(), neighbors.part());
-    let lengths = (offsets.length, neighbors.length);
-    let ours = (number, header, offsets.numbers, neighbors.numbers);
-    check.same(expected.0, ours, expected, || shown(file, lengths.0, lengths.1));
+    let [offsets, neighbors, workloads] = lent.each_mut().map(Lent::part);
+    let (number, header) = bridge::read_link_file(lent_file, offsets, neighbors, workloads);
+    let ours = (number, header, lent.map(|slice| slice.numbers));
+    check.same(expected.0, ours, expected, || shown(file, lengths));
 }
 
 // ---- files
@@ -98,33 +101,56 @@ fn samples(check: &mut Check, random: &mut Random) {
     }
 }
 
-/// Each file of up to 4 vertices and up to 2 links with ends to 4, and those of 4 vertices and 3 links.
+/// Each file of up to 4 vertices and up to 2 links with ends to 4, and those of 4 vertices and 3 links: without workloads, with good
+/// ones, and with one out of its range.
 fn small_files(check: &mut Check, random: &mut Random) {
     for n in 0..=4 {
         for e in 0..=if n == 4 { 3 } else { 2 } {
             for code in 0..25u32.pow(e) {
                 let links: Vec<_> = (0..e).map(|i| code / 25u32.pow(i) % 25).map(|l| (l / 5, l % 5)).collect();
-                both(check, random, &link_file::write([n, 0, 1, 1, 1, 0, 1], &links));
+                for workloads in [[].as_slice(), &[1, 10_000, 2, 300], &[0, 1, 1, 1], &[10_001, 1, 1, 1]] {
+                    let workloads = &workloads[..workloads.len().min(n as usize)];
+                    both(check, random, &link_file::write([n, 0, 1, 1, 1, 0, 1], &links, workloads));
+                }
             }
         }
     }
 }
 
-/// Every number of the limits below, at and above its limit, with as many links and bytes as the header says; then far
-/// beyond, where a sum of 32 bits wraps; and each file cut and lengthened.
+/// Every number of the limits below, at and above its limit, with as many links and bytes as the header says, without workloads and
+/// with them; then far beyond, where a sum of 32 bits wraps; each file cut and lengthened; and its last number changed.
 fn about_limits(check: &mut Check, random: &mut Random) {
     let pairs: Vec<(u32, u32)> = (0..4).flat_map(|a| (a + 1..50).map(move |b| (a, b))).collect();
-    for code in 0..81 {
+    let numbers = [256, 1 << 16, 1 << 24, 1 << 29, 1 << 31, u32::MAX - 2, u32::MAX];
+    for code in 0..162 {
         let mut header = [0, 0, 0, 0, 1, 0, 1];
         let above = [code / 27 % 3, code / 9 % 3, code / 3 % 3, code % 3];
         (0..4).for_each(|i| header[i] = LIMITS[i] - 1 + above[i]);
-        let file = link_file::write(header, &pairs[..header[1] as usize]);
+        let workloads = vec![10_000; if code < 81 { 0 } else { header[0] as usize }];
+        let file = link_file::write(header, &pairs[..header[1] as usize], &workloads);
         both(check, random, &file);
         both(check, random, &file[..file.len() - 1]);
         both(check, random, &[&file[..], &[0]].concat());
-        for at in 0..4 {
-            for number in [256, 1 << 16, 1 << 24, 1 << 29, 1 << 31, u32::MAX - 2, u32::MAX] {
+        for number in numbers {
+            for at in 0..4 {
                 both(check, random, &with_word(&file, at, number));
+            }
+            both(check, random, &with_word(&file, file.len() / 4 - 1, number));
+        }
+    }
+}
+
+/// Some sites' files at every length from that of the header to beyond the longer of the two that are taken; the workloads are good,
+/// or the last of them is not.
+fn every_length(check: &mut Check, random: &mut Random) {
+    let path = |n: u32| (1..n).map(|v| (v - 1, v)).collect::<Vec<_>>();
+    for (n, links) in [(0, vec![]), (1, vec![]), (2, vec![]), (4, path(4)), (64, path(64)), (64, path(2))] {
+        for last in [10_000, 10_001, 0] {
+            let mut workloads = vec![1; n as usize + 3];
+            workloads[(n as usize).saturating_sub(1)] = last;
+            let file = link_file::write([n, 0, 1, 1, 1, 0, 1], &links, &workloads);
+            for length in 28..=file.len() {
+                both(check, random, &file[..length]);
             }
         }
     }
@@ -136,8 +162,8 @@ fn with_word(file: &[u8], at: usize, number: u32) -> Vec<u8> {
     file
 }
 
-/// A header and links that the check accepts, of any shape of site.
-fn good(random: &mut Random) -> ([u32; 7], Vec<(u32, u32)>) {
+/// A header, links and workloads (or none) that the check accepts, of any shape of site.
+fn good(random: &mut Random) -> ([u32; 7], Vec<(u32, u32)>, Vec<u32>) {
     let size = random.pick(&[3, 8, 20, 64]);
     let site = sites::any(random, size);
     let mut links: Vec<_> = site.links().iter().map(|&(a, b)| (a as u32, b as u32)).collect();
@@ -149,33 +175,45 @@ fn good(random: &mut Random) -> ([u32; 7], Vec<(u32, u32)>) {
     let n = if random.once_in(4) { random.between(n.into(), LIMITS[0].into()) as u32 } else { n };
     let any = |random: &mut Random| (random.draw() >> random.between(32, 63)) as u32;
     let header = [n, 0, random.below(9) as u32, random.below(13) as u32, any(random), any(random), any(random)];
-    (header, links)
+    let workloads = if random.once_in(2) { Vec::new() } else { sites::some_workloads(random, n as usize) };
+    (header, links, workloads)
 }
 
 fn good_files(check: &mut Check, random: &mut Random, count: u64) {
     for _ in 0..count {
-        let (header, links) = good(random);
-        let file = link_file::write(header, &links);
-        assert!(link_file::check(&file).is_ok(), "not good: {}", shown(&file, 0, 0));
+        let (header, links, workloads) = good(random);
+        let file = link_file::write(header, &links, &workloads);
+        assert!(link_file::check(&file).is_ok(), "not good: {}", shown(&file, [0; 3]));
         both(check, random, &file);
     }
 }
 
+/// One or two of: wrong links, wrong workloads, wrong bytes.
 fn damaged_files(check: &mut Check, random: &mut Random, count: u64) {
     for _ in 0..count {
-        let (header, mut links) = good(random);
-        let file = match random.below(3) {
-            0 => {
-                spoil_links(random, header[0], &mut links);
-                link_file::write(header, &links)
-            }
-            1 => spoil_bytes(random, link_file::write(header, &links)),
-            _ => {
-                spoil_links(random, header[0], &mut links);
-                spoil_bytes(random, link_file::write(header, &links))
-            }
-        };
+        let (header, mut links, mut workloads) = good(random);
+        let kind = random.below(6);
+        if matches!(kind, 0 | 3 | 4) {
+            spoil_links(random, header[0], &mut links);
+        }
+        if matches!(kind, 1 | 3 | 5) {
+            spoil_workloads(random, header[0] as usize, &mut workloads);
+        }
+        let mut file = link_file::write(header, &links, &workloads);
+        if matches!(kind, 2 | 4 | 5) {
+            file = spoil_bytes(random, file);
+        }
         both(check, random, &file);
+    }
+}
+
+/// A workload out of its range, or one too few, or one too many.
+fn spoil_workloads(random: &mut Random, n: usize, workloads: &mut Vec<u32>) {
+    workloads.resize(n, 1);
+    match random.below(6) {
+        0 => drop(workloads.pop()),
+        1 => workloads.push(1),
+        _ => workloads[random.index(n)] = random.pick(&[0, 10_001, 1 << 14, 1 << 16, 1 << 24, u32::MAX]),
     }
 }
 

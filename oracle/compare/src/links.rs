@@ -1,4 +1,4 @@
-//! Rules 1 and 2, the options' test, the neighbor query and the list test: crate links.
+//! Rules 1 and 2, the options' test, the neighbor query, the list test and the test of workloads: crate links.
 use crate::bridge;
 use crate::report::{Check, Report};
 use reference::answers::{self, Options};
@@ -17,6 +17,8 @@ pub fn compare(report: &mut Report, seed: u64, count: u64) {
     report.check("lists_cause, all small lists", &[0, 4], small_lists);
     report.check("lists_cause, sound and damaged lists", &[0, 4], |c| lists(c, &mut Random::new(seed), count));
     report.check("lists_cause, at the limits", &[0, 4], |c| large_lists(c, &mut Random::new(seed)));
+    report.check("workloads_cause, all small lists", &[0, 13], small_workloads);
+    report.check("workloads_cause", &[0, 13], |c| workloads(c, &mut Random::new(seed), count));
 }
 
 /// Numbers about the widths' ends, or any.
@@ -268,6 +270,38 @@ fn large_lists(check: &mut Check, random: &mut Random) {
         lists_cause(check, site);
         for _ in 0..3 {
             lists_cause(check, &sites::damaged(random, site));
+        }
+    }
+}
+
+// ---- workloads
+
+fn workloads_cause(check: &mut Check, workloads: &[u32], n: u64) {
+    let rust = answers::workloads_cause(workloads, n);
+    check.same(rust, bridge::workloads_cause(workloads, n), rust, || {
+        format!("n {n}, {} workloads {:?}", workloads.len(), &workloads[..workloads.len().min(20)])
+    });
+}
+
+fn small_workloads(check: &mut Check) {
+    lists_of(4, &[0, 1, 2, 9_999, 10_000, 10_001, u32::MAX], |workloads| {
+        for n in (0..=5).chain([1 << 32, (1 << 32) + 1, u64::MAX]) {
+            workloads_cause(check, workloads, n);
+        }
+    });
+}
+
+/// A stray number anywhere in the list, or none; and lengths about n, one that is right again if its high half is dropped too.
+fn workloads(check: &mut Check, random: &mut Random, count: u64) {
+    for i in 0..count {
+        let n = if i % 100 == 0 { 16_380 + random.index(10) } else { 1 + random.index(70) };
+        let mut list = sites::some_workloads(random, n);
+        if random.once_in(2) {
+            list[random.index(n)] = random.pick(&[0, 10_001, 1 << 16, 1 << 31, u32::MAX]);
+        }
+        let n = n as u64;
+        for n in [n, random.pick(&[n - 1, n + 1, n + (1 << 32), 0])] {
+            workloads_cause(check, &list, n);
         }
     }
 }

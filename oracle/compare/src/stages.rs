@@ -1,10 +1,11 @@
-//! The five stages beside the Rust's, each by itself, on levels of any weights and owners. Moves are held against the oracle in
-//! force, the others, and moves among two ranks, against the unchanged Rust: no request has changed them.
+//! The five stages beside the Rust's, each by itself, on levels of any weights and owners. Moves and swaps are held against the
+//! oracle in force; the others, moves among two ranks, and swaps where all weights are 1, against the unchanged Rust: no request
+//! has changed them.
 use crate::bridge;
 use crate::bridge_stages::{Level, Rules};
 use crate::levels::{self, MAX_TOTAL};
 use crate::report::{Check, Report};
-use reference::answers::{MAX_NEIGHBORS, MAX_RANKS, MAX_VERTICES, lists_cause, refine_by_cut};
+use reference::answers::{MAX_NEIGHBORS, MAX_RANKS, MAX_VERTICES, lists_cause, refine_by_cut, refine_fine_pair_swaps};
 use reference::random::Random;
 use reference::unchanged::stages;
 
@@ -85,20 +86,25 @@ fn moves(check: &mut Check, level: &Level, t: u32, passes: u64) -> u64 {
     answer.1
 }
 
-/// The Rust's swaps have no weights: each vertex weighs 1. They end with a check of the owners, which in a division cannot refuse;
-/// document 01 has none there, so it is made here.
+/// The Rust's swaps end with a check of the owners, which in a division cannot refuse; document 01 has none there, so it is made
+/// here.
 fn swaps(check: &mut Check, level: &Level, t: u32, passes: u64) -> u64 {
-    let level = &Level { weights: vec![1; level.vertices()], ..level.clone() };
     let mut work = noise(level.need());
     let answer = level.swaps(rules(level, t, passes), &mut work);
     let ours = refined(level, answer, &work).and_then(|made| match bridge::from_owners(level.ranks, &made.0) {
         0 => Ok(made),
         number => Err(number),
     });
-    let rust = stages::refine_fine_pair_swaps(&level.rows(), level.ranks, &level.owners, t, passes as usize);
+    let (rows, weights) = (level.rows(), wide(&level.weights));
+    let rust = refine_fine_pair_swaps(&rows, &weights, level.ranks, &level.owners, t, passes as usize);
     check.made(answer.1);
     check.outcomes(ours, checked(level, rust), || format!("t {t}, passes {passes}, {level:?}"));
     answer.1
+}
+
+/// The same with weights of 1.
+fn unit_swaps(check: &mut Check, level: &Level, t: u32, passes: u64) -> u64 {
+    swaps(check, &Level { weights: vec![1; level.vertices()], ..level.clone() }, t, passes)
 }
 
 // ---- chains
@@ -215,6 +221,7 @@ fn at_the_limits(check: &mut Check, random: &mut Random) {
         growth(check, &level, t);
         moves(check, &level, t, u64::MAX);
         swaps(check, &level, t, u64::MAX);
+        unit_swaps(check, &level, t, u64::MAX);
     }
 }
 
@@ -229,9 +236,13 @@ pub fn compare(report: &mut Report, seed: u64, count: u64) {
     report.check("refine_by_cut, all small levels", &[0, 2, 9], |c| small_owned(c, levels::small_owned(), moves));
     report.check("refine_by_cut, chains of moves", &[0, 9], chains_of_moves);
     report.check("refine_fine_pair_swaps", &[0, 2, 9], |c| refinements(c, seed, count, swaps));
+    report.check("refine_fine_pair_swaps, weights of 1", &[0, 2, 9], |c| refinements(c, seed, count, unit_swaps));
     report.check("refine_fine_pair_swaps, all small levels", &[0, 2, 9], |c| {
+        small_owned(c, levels::small_owned(), swaps);
+    });
+    report.check("refine_fine_pair_swaps, all small levels, weights of 1", &[0, 2, 9], |c| {
         let unit = |level: &Level| level.weights.iter().all(|&w| w <= 1);
-        small_owned(c, levels::small_owned().filter(unit), swaps);
+        small_owned(c, levels::small_owned().filter(unit), unit_swaps);
     });
     report.check("refine_fine_pair_swaps, chains of swaps", &[0], chains_of_swaps);
     report.check("the stages at the limits", &[0], |c| at_the_limits(c, &mut Random::new(seed)));

@@ -1,6 +1,7 @@
-//! What documents 01 and 02 expect of each public call. Where 01 adds a refusal (3, 4, 5; cap and floor beyond their range), its
-//! rule stands here and comes first, in 01's order; all else is what the Rust answers: the unchanged Rust where no request of
-//! 02 can change the answer, else the oracle in force.
+//! What documents 01 and 02 expect of each public call. Where they add a refusal (3, 4, 5, 13; cap and floor beyond their range),
+//! their rule stands here and comes first, in their order; all else is what the Rust answers: the unchanged Rust where no request
+//! of 02 can change the answer, else the oracle in force.
+use crate::sites::Question;
 use crate::unchanged::{self, stages};
 use crate::{Csr32Matrix, DistributedTopologyError, PartitionAssignment, RankId, in_force};
 
@@ -8,6 +9,7 @@ pub const MAX_VERTICES: usize = 16_384;
 pub const MAX_NEIGHBORS: usize = 131_072;
 pub const MAX_RANKS: u32 = 256;
 pub const MAX_LEVELS: u64 = 32;
+pub const MAX_WORKLOAD: u32 = 10_000;
 
 /// The number of the Rust's error. InvalidRankCount is 2 by n and k, else the 7 of too few groups.
 pub fn refusal(e: &DistributedTopologyError, n: usize, ranks: u32) -> u32 {
@@ -104,6 +106,12 @@ pub fn lists_cause(offsets: &[u32], neighbors: &[u32]) -> u32 {
     if directed.iter().all(|&(v, u)| directed.contains(&(u, v))) { 0 } else { 4 }
 }
 
+/// Request P1: 13 for "a workload of 0 or above 10,000, or a workload slice not n long", else 0.
+pub fn workloads_cause(workloads: &[u32], n: u64) -> u32 {
+    let good = workloads.len() as u64 == n && workloads.iter().all(|w| (1..=MAX_WORKLOAD).contains(w));
+    if good { 0 } else { 13 }
+}
+
 // ---- rule 8
 
 /// Options as 01 has them: u64 all.
@@ -141,67 +149,71 @@ pub fn lent_needs(n: usize, m: usize, ranks: u32, max_levels: u64) -> (usize, us
 }
 
 /// A division with enough lent memory.
-pub fn partition(offsets: &[u32], neighbors: &[u32], ranks: u32, options: Options) -> Result<Division, u32> {
-    partition_lent(offsets, neighbors, ranks, options, usize::MAX, usize::MAX)
+pub fn partition(question: &Question) -> Result<Division, u32> {
+    partition_lent(question, usize::MAX, usize::MAX)
 }
 
-/// A division with so many owners and work numbers lent. 01 adds 3, 4 and 5, which come after the Rust's 1 and 2: these are
-/// reckoned here too where the Rust cannot be given the lists.
-pub fn partition_lent(
-    offsets: &[u32],
-    neighbors: &[u32],
-    ranks: u32,
-    options: Options,
-    owners_lent: usize,
-    work_lent: usize,
-) -> Result<Division, u32> {
-    let (n, m) = (vertex_count(offsets), neighbors.len());
+/// A division with so many owners and work numbers lent. 3, 4, 13 and 5 come after the Rust's 1 and 2: these are reckoned here
+/// too where the Rust cannot be given the lists.
+pub fn partition_lent(question: &Question, owners_lent: usize, work_lent: usize) -> Result<Division, u32> {
+    let Question { site, workloads, ranks, options } = question;
+    let (n, m) = (vertex_count(&site.offsets), site.neighbors.len());
     if options.validate() != 0 {
         return Err(1);
     }
-    if n == 0 || ranks == 0 || ranks as usize > n {
+    if n == 0 || *ranks == 0 || *ranks as usize > n {
         return Err(2);
     }
-    if n > MAX_VERTICES || m > MAX_NEIGHBORS || ranks > MAX_RANKS || options.max_levels > MAX_LEVELS {
+    if n > MAX_VERTICES || m > MAX_NEIGHBORS || *ranks > MAX_RANKS || options.max_levels > MAX_LEVELS {
         return Err(3);
     }
-    if lists_cause(offsets, neighbors) != 0 {
+    if lists_cause(&site.offsets, &site.neighbors) != 0 {
         return Err(4);
     }
-    let (owners_need, work_need) = lent_needs(n, m, ranks, options.max_levels);
+    if workloads_cause(workloads, n as u64) != 0 {
+        return Err(13);
+    }
+    let (owners_need, work_need) = lent_needs(n, m, *ranks, options.max_levels);
     if owners_lent < owners_need || work_lent < work_need {
         return Err(5);
     }
-    rust_partition(offsets, neighbors, ranks, options)
+    rust_partition(question)
 }
 
-/// Whether a request of document 02 can change a division, or the moves of a level. Request P4 cannot among two ranks: then a
-/// vertex has no more than one rank to go to.
-pub fn changed(ranks: u32) -> bool {
+/// Whether a request of document 02 can change the moves of a level. Request P4 cannot among two ranks: then a vertex has no more
+/// than one rank to go to.
+fn moves_changed(ranks: u32) -> bool {
     ranks > 2
 }
 
+/// The same of the swaps. Request P1 cannot where every weight is 1: then a swap leaves both loads as they were.
+fn swaps_changed<T: PartialEq + From<u8>>(weights: &[T]) -> bool {
+    weights.iter().any(|w| *w != T::from(1))
+}
+
+/// The same of a division.
+pub fn changed(ranks: u32, workloads: &[u32]) -> bool {
+    moves_changed(ranks) || swaps_changed(workloads)
+}
+
 /// What the Rust answers, its own 1 and 2 included, on lists that make a matrix.
-pub fn rust_partition(offsets: &[u32], neighbors: &[u32], ranks: u32, options: Options) -> Result<Division, u32> {
-    let oracle = if changed(ranks) { in_force::asked } else { unchanged::asked };
-    oracle_partition(oracle, offsets, neighbors, ranks, options)
+fn rust_partition(question: &Question) -> Result<Division, u32> {
+    let oracle = if changed(question.ranks, &question.workloads) { in_force::asked } else { unchanged::asked };
+    oracle_partition(oracle, question)
 }
 
 /// A driver of multilevel.rs: unchanged, in force, or with a slip.
-pub type Asked = fn(&Csr32Matrix, RankId, [u64; 4]) -> Result<Division, DistributedTopologyError>;
+pub type Asked = fn(&Csr32Matrix, &[usize], RankId, [u64; 4]) -> Result<Division, DistributedTopologyError>;
 
-pub fn oracle_partition(
-    oracle: Asked,
-    offsets: &[u32],
-    neighbors: &[u32],
-    ranks: u32,
-    options: Options,
-) -> Result<Division, u32> {
+pub fn oracle_partition(oracle: Asked, question: &Question) -> Result<Division, u32> {
     assert!(std::env::var_os("HYBIT_A6_F12_MERGE").is_none(), "HYBIT_A6_F12_MERGE must be unset");
-    let n = vertex_count(offsets);
-    let matrix = Csr32Matrix::new(n, n, offsets.to_vec(), neighbors.to_vec(), vec![1.0; neighbors.len()])
-        .expect("lists that make a matrix");
-    oracle(&matrix, ranks, options.numbers()).map_err(|e| refusal(&e, n, ranks))
+    let Question { site, workloads, ranks, options } = question;
+    let n = vertex_count(&site.offsets);
+    let (offsets, neighbors) = (site.offsets.clone(), site.neighbors.clone());
+    let values = vec![1.0; neighbors.len()];
+    let matrix = Csr32Matrix::new(n, n, offsets, neighbors, values).expect("lists that make a matrix");
+    let workloads: Vec<usize> = workloads.iter().map(|&w| w as usize).collect();
+    oracle(&matrix, &workloads, *ranks, options.numbers()).map_err(|e| refusal(&e, n, *ranks))
 }
 
 /// The moves of one level: owners and their number, or 9.
@@ -213,6 +225,20 @@ pub fn refine_by_cut(
     imbalance_per_mille: u32,
     passes: usize,
 ) -> Result<(Vec<u32>, usize), u32> {
-    let stage = if changed(ranks) { in_force::stages::refine_by_cut } else { stages::refine_by_cut };
+    let stage = if moves_changed(ranks) { in_force::stages::refine_by_cut } else { stages::refine_by_cut };
+    stage(rows, weights, ranks, owners, imbalance_per_mille, passes)
+}
+
+/// The swaps of one level: owners and their number, or the number of the Rust's check of the owners.
+pub fn refine_fine_pair_swaps(
+    rows: &[Vec<usize>],
+    weights: &[usize],
+    ranks: u32,
+    owners: &[u32],
+    imbalance_per_mille: u32,
+    passes: usize,
+) -> Result<(Vec<u32>, usize), u32> {
+    let stage =
+        if swaps_changed(weights) { in_force::stages::refine_fine_pair_swaps } else { stages::refine_fine_pair_swaps };
     stage(rows, weights, ranks, owners, imbalance_per_mille, passes)
 }

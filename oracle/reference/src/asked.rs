@@ -14,10 +14,11 @@ pub fn options([max_levels, coarse_vertices_per_rank, t, refinement_passes]: [u6
 /// The owners, and the stats in the order of `AbtmMultilevelStats`.
 pub fn asked(
     matrix: &Csr32Matrix,
+    workloads: &[usize],
     ranks: RankId,
     numbers: [u64; 4],
 ) -> Result<(Vec<RankId>, [u64; 8]), DistributedTopologyError> {
-    let (assignment, s) = abtm_multilevel_partition(matrix, ranks, options(numbers))?;
+    let (assignment, s) = abtm_multilevel_partition(matrix, workloads, ranks, options(numbers))?;
     let stats = [
         s.levels_built,
         s.coarsest_vertices,

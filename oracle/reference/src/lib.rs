@@ -51,14 +51,44 @@ mod partition {
     }
 }
 
+/// The file as it stands. Its division and its swaps take no weights; `weighed` calls them as those of the oracle in force, where
+/// all weights are 1.
 #[allow(dead_code)]
 pub mod unchanged {
     include!(concat!(env!("RUST_SRC"), "/crates/hybit-distributed/src/multilevel.rs"));
-    include!("asked.rs");
 
-    pub mod stages {
-        include!("stages.rs");
+    mod weighed {
+        use super::*;
+
+        fn abtm_multilevel_partition(
+            matrix: &Csr32Matrix,
+            workloads: &[usize],
+            ranks: RankId,
+            options: AbtmMultilevelOptions,
+        ) -> Result<(PartitionAssignment, AbtmMultilevelStats), DistributedTopologyError> {
+            assert!(workloads.iter().all(|&w| w == 1), "the unchanged division takes no workloads");
+            super::abtm_multilevel_partition(matrix, ranks, options)
+        }
+
+        fn refine_fine_pair_swaps(
+            matrix: &Csr32Matrix,
+            weights: &[usize],
+            assignment: &mut PartitionAssignment,
+            imbalance_per_mille: u32,
+            passes: usize,
+        ) -> Result<usize, DistributedTopologyError> {
+            assert!(weights.iter().all(|&w| w == 1), "the unchanged swaps take no weights");
+            super::refine_fine_pair_swaps(matrix, assignment, imbalance_per_mille, passes)
+        }
+
+        include!("asked.rs");
+
+        pub mod stages {
+            include!("stages.rs");
+        }
     }
+
+    pub use weighed::{asked, options, stages};
 }
 
 #[allow(dead_code)]
@@ -69,4 +99,11 @@ pub mod in_force {
     pub mod stages {
         include!("stages.rs");
     }
+}
+
+/// With request P1 and no other, which changes no division whose workloads are all 1.
+#[allow(dead_code)]
+pub mod p1_alone {
+    include!(concat!(env!("OUT_DIR"), "/p1_alone.rs"));
+    include!("asked.rs");
 }

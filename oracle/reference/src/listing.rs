@@ -1,6 +1,6 @@
 //! What document 01's program `share` prints, by its own example: the listing of the Rust's division, or `refused ` and the number.
-use crate::answers::{Options, partition};
-use crate::link_file::{Contents, check};
+use crate::answers::partition;
+use crate::link_file::check;
 
 /// The text for a file's bytes.
 pub fn listing(file: &[u8]) -> String {
@@ -11,10 +11,9 @@ pub fn listing(file: &[u8]) -> String {
 }
 
 fn answer(file: &[u8]) -> Result<String, u32> {
-    let Contents { header, site } = check(file)?;
-    let [n, _, k, options @ ..] = header;
-    let (owners, stats) = partition(&site.offsets, &site.neighbors, k, Options::of(options.map(u64::from)))?;
-    let mut text = format!("turbines {n} crews {k}\n");
+    let question = check(file)?.question();
+    let (owners, stats) = partition(&question)?;
+    let mut text = format!("turbines {} crews {}\n", owners.len(), question.ranks);
     for (v, owner) in owners.iter().enumerate() {
         text += &format!("{v} {owner}\n");
     }

@@ -1,5 +1,5 @@
-//! Sites to compare on: a graph by its links, as sound lent lists, and generators of many shapes.
-use crate::answers::Options;
+//! Sites to compare on: a graph by its links, as sound lent lists, and generators of many shapes; and divisions asked of them.
+use crate::answers::{MAX_WORKLOAD, Options};
 use crate::random::Random;
 use std::collections::BTreeSet;
 
@@ -52,18 +52,6 @@ impl Site {
         ends.filter(|(v, u)| v < u).collect()
     }
 
-    /// A division of this site as `ask` reads it.
-    pub fn question(&self, ranks: u32, o: Options) -> String {
-        let Options { max_levels, coarse_vertices_per_rank, imbalance_per_mille, refinement_passes } = o;
-        let n = self.vertices();
-        let mut text =
-            format!("{n} {ranks} {max_levels} {coarse_vertices_per_rank} {imbalance_per_mille} {refinement_passes}");
-        for (a, b) in self.links() {
-            text += &format!("; {a} {b}");
-        }
-        text
-    }
-
     /// The same graph with its vertices numbered anew at random: ties fall otherwise.
     pub fn shuffled(&self, random: &mut Random) -> Self {
         let n = self.vertices();
@@ -81,6 +69,42 @@ impl Site {
         let mut links = self.links();
         links.extend(other.links().iter().map(|&(a, b)| (a + n, b + n)));
         Site::new(n + other.vertices(), &links)
+    }
+}
+
+/// A division asked: of a site, with a workload for each vertex.
+#[derive(Clone, Debug)]
+pub struct Question {
+    pub site: Site,
+    pub workloads: Vec<u32>,
+    pub ranks: u32,
+    pub options: Options,
+}
+
+impl Question {
+    /// With workloads of 1.
+    pub fn new(site: Site, ranks: u32, options: Options) -> Self {
+        let workloads = vec![1; site.vertices()];
+        Question { site, workloads, ranks, options }
+    }
+
+    /// The same with these workloads.
+    pub fn weighed(self, workloads: Vec<u32>) -> Self {
+        Question { workloads, ..self }
+    }
+
+    /// As `ask` reads it. The lists are sound.
+    pub fn text(&self) -> String {
+        let first = [self.site.vertices() as u64, self.ranks.into()].into_iter().chain(self.options.numbers());
+        let mut text = first.map(|x| x.to_string()).collect::<Vec<_>>().join(" ");
+        if self.workloads != vec![1; self.site.vertices()] {
+            text += "; workloads";
+            self.workloads.iter().for_each(|w| text += &format!(" {w}"));
+        }
+        for (a, b) in self.site.links() {
+            text += &format!("; {a} {b}");
+        }
+        text
     }
 }
 
@@ -319,4 +343,18 @@ pub fn some_options(random: &mut Random) -> Options {
         imbalance_per_mille: random.pick(&[0, 30, 100, 200, 333, 334, 499, 500]),
         refinement_passes: random.pick(&[1, 2, 3, 10, u64::MAX]),
     }
+}
+
+/// Workloads that a division takes, all of one kind: any; small; equal; one heavy; the least and the most.
+pub fn some_workloads(random: &mut Random, n: usize) -> Vec<u32> {
+    let (kind, heavy, some) = (random.below(5), random.index(n), random.between(1, MAX_WORKLOAD.into()));
+    let one = |v: usize| match kind {
+        0 => random.between(1, MAX_WORKLOAD.into()),
+        1 => random.between(1, 4),
+        2 => some,
+        3 if v == heavy => some,
+        3 => 1,
+        _ => random.pick(&[1, MAX_WORKLOAD.into()]),
+    };
+    (0..n).map(one).map(|w| w as u32).collect()
 }

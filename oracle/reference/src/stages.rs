@@ -76,13 +76,14 @@ pub fn refine_by_cut(
 /// Swaps: the owners and the number of swaps.
 pub fn refine_fine_pair_swaps(
     rows: &[Vec<usize>],
+    weights: &[usize],
     ranks: RankId,
     owners: &[RankId],
     imbalance_per_mille: u32,
     passes: usize,
 ) -> Result<(Vec<RankId>, usize), u32> {
     let (matrix, mut assignment) = owned_matrix(rows, ranks, owners);
-    super::refine_fine_pair_swaps(&matrix, &mut assignment, imbalance_per_mille, passes)
+    super::refine_fine_pair_swaps(&matrix, weights, &mut assignment, imbalance_per_mille, passes)
         .map(|swaps| (assignment.owners().to_vec(), swaps))
         .map_err(number)
 }

@@ -2,6 +2,7 @@
 //! to it that the end is that of the Rust's own driver.
 use crate::answers::Options;
 use crate::in_force::stages::{self, Coarsened, Rows};
+use crate::sites::Question;
 
 #[derive(Clone, Debug)]
 pub struct Trace {
@@ -34,13 +35,15 @@ pub struct Moved {
     pub count: usize,
 }
 
-/// Rows are symmetric, and the call is past refusal 5.
-pub fn trace(rows: &[Vec<usize>], ranks: u32, options: Options) -> Trace {
+/// The call is past refusal 5.
+pub fn trace(question: &Question) -> Trace {
+    let &Question { ranks, options, .. } = question;
     let (t, passes) = (options.imbalance_per_mille as u32, options.refinement_passes as usize);
-    let n = rows.len();
+    let workloads: Vec<usize> = question.workloads.iter().map(|&w| w as usize).collect();
+    let total = workloads.iter().sum();
     let mut trace = Trace {
-        cap: stages::load_cap(n, ranks, t),
-        floor: stages::minimum_load(n, ranks, t),
+        cap: stages::load_cap(total, ranks, t),
+        floor: stages::minimum_load(total, ranks, t),
         coarsened: Vec::new(),
         discarded: None,
         seeds: Vec::new(),
@@ -49,7 +52,7 @@ pub fn trace(rows: &[Vec<usize>], ranks: u32, options: Options) -> Trace {
         swapped: None,
         owners: Err(0),
     };
-    let levels = trace.coarsen(rows, ranks, options);
+    let levels = trace.coarsen((question.site.rows(), workloads), ranks, options);
     let (coarsest, weights) = levels.last().expect("the finest level at least");
     trace.seeds = stages::farthest_seeds(coarsest, ranks).unwrap_or_default();
     trace.growth = stages::weighted_multisource_partition(coarsest, weights, ranks, t)
@@ -68,7 +71,8 @@ pub fn trace(rows: &[Vec<usize>], ranks: u32, options: Options) -> Trace {
         });
     }
     let Ok(start) = trace.owners.clone() else { return trace };
-    let swapped = stages::refine_fine_pair_swaps(rows, ranks, &start, t, passes.saturating_mul(4));
+    let (rows, weights) = &levels[0];
+    let swapped = stages::refine_fine_pair_swaps(rows, weights, ranks, &start, t, passes.saturating_mul(4));
     trace.owners = swapped.map(|(end, count)| {
         trace.swapped = Some(Moved { level: 0, start, end: end.clone(), count });
         end
@@ -78,9 +82,9 @@ pub fn trace(rows: &[Vec<usize>], ranks: u32, options: Options) -> Trace {
 
 impl Trace {
     /// Coarsens as far as rule 8 says; answers every level's rows and weights, the finest first.
-    fn coarsen(&mut self, rows: &[Vec<usize>], ranks: u32, options: Options) -> Vec<(Rows, Vec<usize>)> {
+    fn coarsen(&mut self, finest: (Rows, Vec<usize>), ranks: u32, options: Options) -> Vec<(Rows, Vec<usize>)> {
         let stop = u64::from(ranks).saturating_mul(options.coarse_vertices_per_rank).max(u64::from(ranks));
-        let mut levels = vec![(rows.to_vec(), vec![1; rows.len()])];
+        let mut levels = vec![finest];
         loop {
             let (rows, weights) = levels.last().expect("the finest level at least");
             if self.coarsened.len() as u64 >= options.max_levels || rows.len() as u64 <= stop {

@@ -2,17 +2,17 @@
 //!
 //!     benchmark [--times NUMBER] [WORD..]
 //!
-//! Each row is a site, a number of ranks and options. Both divide it in turn, NUMBER times (5 if not given; once where the Rust
-//! takes more than two seconds), and the least time of each counts. Owners, moves and cut are compared too. With words, only
-//! rows whose name has one of them run. The Rust gets its matrix ready made and allocates as it goes; the library gets its lists,
-//! which it tests, and slices that were lent to it before and hold what the run before left. Memory is what a division takes
-//! beside the site: the lent owners and work numbers, and the most that the Rust has allocated at one time, told by one more
-//! run that is not timed.
+//! Each row is a site, a number of ranks and options; the workloads are 1 unless its name says others. Both divide it in turn,
+//! NUMBER times (5 if not given; once where the Rust takes more than two seconds), and the least time of each counts. Owners, moves
+//! and cut are compared too. With words, only rows whose name has one of them run. The Rust gets its matrix and its weights ready
+//! made and allocates as it goes; the library gets its lists and workloads, which it tests, and slices that were lent to it before
+//! and hold what the run before left. Memory is what a division takes beside the site: the lent owners and work numbers, and the
+//! most that the Rust has allocated at one time, told by one more run that is not timed.
 use compare::bridge;
 use reference::answers::{Options, lent_needs};
 use reference::in_force::{self, abtm_multilevel_partition};
 use reference::random::Random;
-use reference::sites::{self, Site};
+use reference::sites::{self, Question, Site};
 use reference::{Csr32Matrix, forced};
 use std::alloc::{GlobalAlloc, Layout, System};
 use std::sync::atomic::{AtomicBool, AtomicUsize, Ordering::Relaxed};
@@ -77,9 +77,7 @@ fn most_allocated(run: impl FnOnce()) -> usize {
 
 struct Row {
     name: String,
-    site: Site,
-    ranks: u32,
-    options: Options,
+    asked: Question,
 }
 
 /// What a row takes: the least times of both, and the bytes of both.
@@ -92,19 +90,21 @@ struct Taken {
 
 /// A difference ends the run.
 fn measure(row: &Row, times: u32) -> Taken {
-    let Row { site, ranks, options, .. } = row;
+    let Question { site, workloads, ranks, options } = &row.asked;
     let (n, m) = (site.vertices(), site.neighbors.len());
     let matrix =
         Csr32Matrix::new(n, n, site.offsets.clone(), site.neighbors.clone(), vec![1.0; m]).expect("sound lists");
+    let weights: Vec<usize> = workloads.iter().map(|&w| w as usize).collect();
+    let asked = || abtm_multilevel_partition(&matrix, &weights, *ranks, in_force::options(options.numbers()));
     let (owners_need, work_need) = lent_needs(n, m, *ranks, options.max_levels);
     let (mut owners, mut work) = (vec![1u32; owners_need], vec![1u32; work_need]);
     let (mut ours, mut rust) = (Duration::MAX, Duration::MAX);
     for _ in 0..times {
         let start = Instant::now();
-        let (number, stats) = bridge::divide(&site.offsets, &site.neighbors, *ranks, *options, &mut owners, &mut work);
+        let (number, stats) = bridge::divide(site, workloads, *ranks, *options, &mut owners, &mut work);
         ours = ours.min(start.elapsed());
         let start = Instant::now();
-        let answer = abtm_multilevel_partition(&matrix, *ranks, in_force::options(options.numbers()));
+        let answer = asked();
         rust = rust.min(start.elapsed());
         match answer {
             Ok((assignment, s)) => {
@@ -122,8 +122,7 @@ fn measure(row: &Row, times: u32) -> Taken {
             break;
         }
     }
-    let asked = || drop(abtm_multilevel_partition(&matrix, *ranks, in_force::options(options.numbers())));
-    let allocated = most_allocated(asked);
+    let allocated = most_allocated(|| drop(asked()));
     Taken { ours, rust, lent: 4 * (owners_need + work_need), allocated }
 }
 
@@ -141,21 +140,26 @@ fn rows() -> Vec<Row> {
         ("hubs", sites::hubs(n, 4)),
         ("skewed hub", sites::skewed_hub(n, 11_000, 5)),
     ];
+    let row =
+        |name: &str, site: Site, ranks, options| Row { name: name.into(), asked: Question::new(site, ranks, options) };
     let mut rows = Vec::new();
     for (name, site) in shapes {
         for ranks in [2, 8, 64, 256] {
-            rows.push(Row { name: name.into(), site: site.clone(), ranks, options: default });
+            rows.push(row(name, site.clone(), ranks, default));
         }
     }
-    rows.push(Row { name: "forty turbines".into(), site: sites::grid(5, 8), ranks: 4, options: default });
+    rows.push(row("forty turbines", sites::grid(5, 8), 4, default));
     let forced_options = |imbalance_per_mille| Options {
         coarse_vertices_per_rank: u64::MAX,
         imbalance_per_mille,
         refinement_passes: u64::MAX,
         ..default
     };
-    rows.push(Row { name: "forced moves".into(), site: forced::moves(64, 256), ranks: 64, options: forced_options(1) });
-    rows.push(Row { name: "forced swaps".into(), site: forced::swaps(64, 256), ranks: 64, options: forced_options(0) });
+    rows.push(row("forced moves", forced::moves(64, 256), 64, forced_options(1)));
+    rows.push(row("forced swaps", forced::swaps(64, 256), 64, forced_options(0)));
+    let mut weighed = row("grid, workloads 1 to 10,000", sites::grid(128, 128), 8, default);
+    weighed.asked.workloads = (0..n).map(|_| random.between(1, 10_000) as u32).collect();
+    rows.push(weighed);
     rows
 }
 
@@ -176,16 +180,16 @@ fn main() {
             continue;
         }
         // a small site is divided often enough to be timed
-        let repeated = if row.site.vertices() < 1000 { 200 * times } else { times };
+        let Question { site, ranks, .. } = &row.asked;
+        let repeated = if site.vertices() < 1000 { 200 * times } else { times };
         let Taken { ours, rust, lent, allocated } = measure(&row, repeated);
         let ratio = rust.as_secs_f64() / ours.as_secs_f64();
-        let (n, m) = (row.site.vertices(), row.site.neighbors.len());
+        let (n, m) = (site.vertices(), site.neighbors.len());
         let ms = |d: Duration| d.as_secs_f64() * 1e3;
         let mb = |bytes: usize| bytes as f64 / 1e6;
         println!(
-            "| {} | {n} | {m} | {} | {:.3} | {:.3} | {ratio:.1} | {:.2} | {:.2} |",
+            "| {} | {n} | {m} | {ranks} | {:.3} | {:.3} | {ratio:.1} | {:.2} | {:.2} |",
             row.name,
-            row.ranks,
             ms(rust),
             ms(ours),
             mb(allocated),
