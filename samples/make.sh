@@ -15,11 +15,15 @@ numbers() {
   printf '%b' "$text" >"$folder/$name.links"
 }
 
-# site NAME N K MAX_LEVELS PER_RANK IMBALANCE PASSES LINK..: a site's file; a link is LOW-HIGH
+# site NAME N K MAX_LEVELS PER_RANK IMBALANCE PASSES LINK.. [with WORKLOAD..]: a site's file; a link is LOW-HIGH
 site() {
-  local name=$1 n=$2 rest=("${@:3:5}")
+  local name=$1 n=$2 rest=("${@:3:5}") links=()
   shift 7
-  numbers "$name" "$n" $# "${rest[@]}" "${@%-*}" "${@#*-}"
+  while (($# > 0)) && [ "$1" != with ]; do
+    links+=("$1")
+    shift
+  done
+  numbers "$name" "$n" ${#links[@]} "${rest[@]}" "${links[@]%-*}" "${links[@]#*-}" "${@:2}"
 }
 
 # first NAME FROM BYTES: so many of another sample's bytes
@@ -32,7 +36,9 @@ star4=(0-1 0-2 0-3)
 pairs=(0-1 2-3 4-5)
 # a torus of 8 times 8: 64 vertices and 128 links, the most that a file may have
 torus=()
+most=()
 for ((v = 0; v < 64; v++)); do
+  most+=(10000)
   if ((v % 8 < 7)); then torus+=("$v-$((v + 1))"); fi
   if ((v % 8 == 0)); then torus+=("$v-$((v + 7))"); fi
   if ((v < 56)); then torus+=("$v-$((v + 8))"); fi
@@ -56,6 +62,13 @@ site lone4 4 2 12 1 30 2
 site lighter8 8 3 1 2 500 3 0-1 0-2 0-5 0-6 0-7 1-3 1-4 1-5 1-7 2-3 2-4 2-5 2-7 3-5 3-6 4-6 4-7 5-7
 # every size at its limit
 site torus64 64 8 12 1 100 2 "${torus[@]}"
+# workloads (request P1): a swap that would lift a load to the floor, and one that would bring a load above the cap: neither is made; each 1, as
+# in path4; each at its limit, in the longest file; one above the cap
+site workloads5 5 3 2 2 200 2 0-1 0-3 1-2 2-3 2-4 with 1064 8401 2172 6255 4692
+site workloads4 4 3 3 2 366 3 0-3 1-3 2-3 with 5 4 3 6
+site workloads-ones 4 2 12 64 30 2 "${path4[@]}" with 1 1 1 1
+site workloads-torus64 64 8 12 1 100 2 "${torus[@]}" with "${most[@]}"
+site workloads-above-cap 4 2 12 64 30 2 "${path4[@]}" with 1 1 1 10
 
 # accepted by the check, and refused by a division for the options (1) or the counts (2)
 site option-levels0 4 2 0 64 30 2 "${path4[@]}"
@@ -77,6 +90,10 @@ first over-k9-cut over-k9 100
 numbers over-byte-order $((4 << 24)) $((3 << 24)) $((2 << 24)) $((12 << 24)) $((64 << 24)) $((30 << 24)) $((2 << 24)) \
   0 $((1 << 24)) $((2 << 24)) $((1 << 24)) $((2 << 24)) $((3 << 24))
 
+# a workload out of its range (13)
+site workload-0 4 2 12 64 30 2 "${path4[@]}" with 1 1 0 1
+site workload-10001 4 2 12 64 30 2 "${path4[@]}" with 1 1 1 10001
+
 # malformed (10): the length
 numbers bad-empty
 first bad-short path4 27
@@ -86,6 +103,8 @@ first bad-cut path4 51
   cat "$folder/path4.links"
   printf '\0'
 } >"$folder/bad-long.links"
+site bad-between 4 2 12 64 30 2 "${path4[@]}" with 1 1
+site bad-beyond 4 2 12 64 30 2 "${path4[@]}" with 1 1 1 1 1
 # malformed (10): the links
 site bad-order-low 4 2 12 64 30 2 0-1 2-3 1-2
 site bad-order-high 4 2 12 64 30 2 0-2 0-1 0-3
@@ -93,3 +112,5 @@ site bad-repeat 4 2 12 64 30 2 0-1 0-1 2-3
 site bad-low-above-high 4 2 12 64 30 2 0-1 2-1 2-3
 site bad-self 4 2 12 64 30 2 0-1 1-1 2-3
 site bad-end-n 4 2 12 64 30 2 0-1 1-2 2-4
+# the links come before the workloads
+site bad-end-n-workload-0 4 2 12 64 30 2 0-1 1-2 2-4 with 1 1 0 1

@@ -23,12 +23,12 @@ for file in samples/*.links; do
   echo "== ${name%.links}"
   timeout 60 "$share" <"$file"
 done | diff samples/expected.txt - || failed=1
-for number in 1 2 3 6 7 8 9 10; do
+for number in 1 2 3 6 7 8 9 10 13; do
   grep -qx "refused $number" samples/expected.txt || { echo "share: no sample for refusal $number"; failed=1; }
 done
 same 'path4, document 01' "$(cat crates/share/stdout)" "$("$share" <samples/path4.links)"
 
-# no input, a closed one, a folder; far too long ones: zeros, a good file and more, a file beyond the limits and more, the longest file and a byte
+# no input, a closed one, a folder; far too long ones: zeros, a good file and more, a file beyond the limits and more, the longest file and a byte or more
 zeros() { head -c "$1" /dev/zero; }
 same 'empty input' 'refused 10' "$("$share" </dev/null)"
 same 'closed input' 'refused 10' "$("$share" <&-)"
@@ -37,7 +37,8 @@ set +o pipefail # what writes a long input may meet a program that has ended
 same '1 MB of zeros' 'refused 10' "$(zeros 1000000 | timeout 60 "$share")"
 same 'a good file and 1 MB' 'refused 10' "$({ cat samples/path4.links && zeros 1000000; } 2>/dev/null | timeout 60 "$share")"
 same 'too many ranks and 1 MB' 'refused 3' "$({ cat samples/over-k9.links && zeros 1000000; } 2>/dev/null | timeout 60 "$share")"
-same 'the longest file and a byte' 'refused 10' "$({ cat samples/torus64.links && zeros 1; } | timeout 60 "$share")"
+same 'the longest file and a byte' 'refused 10' "$({ cat samples/workloads-torus64.links && zeros 1; } | timeout 60 "$share")"
+same 'the longest file and 1 MB' 'refused 10' "$({ cat samples/workloads-torus64.links && zeros 1000000; } 2>/dev/null | timeout 60 "$share")"
 set -o pipefail
 # bytes that come one by one
 same 'a byte at a time' "$(cat crates/share/stdout)" "$(for ((i = 1; i <= 52; i++)); do head -c $i samples/path4.links | tail -c 1; done | timeout 60 "$share")"

@@ -9,11 +9,14 @@ fn main() {
     }
     let asked = include_str!("../reference/src/asked.rs");
     let mut modules = String::new();
-    let mut table = String::from("pub const COPIES: &[(&str, &str, Asked)] = &[\n");
-    for (name, what, replacements) in SLIPS {
-        let copy = replaced(in_force(), name, replacements);
-        modules += &format!("#[allow(dead_code, unused)]\npub mod {name} {{\n{copy}\n{asked}}}\n");
-        table += &format!("    ({name:?}, {what:?}, {name}::asked),\n");
+    let mut table = String::from("pub const SLIPS: &[Slip] = &[\n");
+    for (slips, weighed) in [(SLIPS, false), (WORKLOAD_SLIPS, true)] {
+        for (name, what, replacements) in slips {
+            let copy = replaced(in_force(), name, replacements);
+            modules += &format!("#[allow(dead_code, unused)]\npub mod {name} {{\n{copy}\n{asked}}}\n");
+            table +=
+                &format!("    Slip {{ name: {name:?}, what: {what:?}, weighed: {weighed}, asked: {name}::asked }},\n");
+        }
     }
     let out = PathBuf::from(std::env::var_os("OUT_DIR").unwrap()).join("copies.rs");
     std::fs::write(out, modules + &table + "];\n").unwrap();

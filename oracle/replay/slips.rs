@@ -147,7 +147,10 @@ const SLIPS: &[(&str, &str, Replacements)] = &[
     (
         "swap_unbalanced",
         "a swap between ranks of which one is below the floor or above the cap",
-        &[("if loads[a] < floor || loads[a] > cap || loads[b] < floor || loads[b] > cap {", "if false {")],
+        &[
+            ("if loads[a] < floor || loads[a] > cap || loads[b] < floor || loads[b] > cap {", "if false {"),
+            ("if left_a < floor || left_a > cap || left_b < floor || left_b > cap {", "if false {"),
+        ],
     ),
     (
         "seven_candidates",
@@ -192,5 +195,53 @@ const SLIPS: &[(&str, &str, Replacements)] = &[
                 "let candidate = (gain, usize::MAX - stale[target], usize::MAX - target);",
             ),
         ],
+    ),
+];
+
+// The slips of request P1: their sites have workloads.
+const WORKLOAD_SLIPS: &[(&str, &str, Replacements)] = &[
+    (
+        "swap_before_only",
+        "the loads are held to floor and cap before a swap only",
+        &[("if left_a < floor || left_a > cap || left_b < floor || left_b > cap {", "if false {")],
+    ),
+    (
+        "swap_after_only",
+        "the loads are held to floor and cap after a swap only",
+        &[("if loads[a] < floor || loads[a] > cap || loads[b] < floor || loads[b] > cap {", "if false {")],
+    ),
+    (
+        "cap_from_n",
+        "cap and floor go by the number of vertices, not by the sum of workloads",
+        &[
+            (
+                "const UNASSIGNED: RankId = RankId::MAX;",
+                "const UNASSIGNED: RankId = RankId::MAX;\nuse std::sync::atomic::{AtomicUsize, Ordering::Relaxed};\nstatic VERTICES: AtomicUsize = AtomicUsize::new(0);",
+            ),
+            ("options.validate()?;", "options.validate()?;\n    VERTICES.store(matrix.nrows(), Relaxed);"),
+            ("total_weight.saturating_mul(1000usize + ", "VERTICES.load(Relaxed).saturating_mul(1000usize + "),
+            (
+                "total_weight.saturating_mul(1000usize.saturating_sub(",
+                "VERTICES.load(Relaxed).saturating_mul(1000usize.saturating_sub(",
+            ),
+        ],
+    ),
+    (
+        "swap_cap_from_n",
+        "cap and floor of the swaps go by the number of vertices, as before P1",
+        &[
+            ("load_cap(weights.iter().sum(), assignment", "load_cap(n, assignment"),
+            ("minimum_load(weights.iter().sum(), assignment", "minimum_load(n, assignment"),
+        ],
+    ),
+    (
+        "swap_loads_stale",
+        "the loads are not updated after a swap",
+        &[("loads[a] = left_a;", ""), ("loads[b] = left_b;", "")],
+    ),
+    (
+        "workloads_ignored",
+        "growth and moves take each workload as 1",
+        &[("let mut current_weights = workloads.to_vec();", "let mut current_weights = vec![1usize; matrix.nrows()];")],
     ),
 ];

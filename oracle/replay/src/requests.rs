@@ -1,18 +1,26 @@
 //! The requests of crates/replay: the samples, sites that tell each slip from the oracle in force, and random sites.
 use reference::answers::{Asked, Options, oracle_partition, partition};
-use reference::link_file::{Contents, LIMITS, check, write as file_of};
+use reference::link_file::{LIMITS, check, write as file_of};
 use reference::listing::listing;
 use reference::random::Random;
-use reference::sites::{self, Site};
-use slips::COPIES;
+use reference::sites::{self, Question, Site};
+use slips::SLIPS;
 use std::fmt::Write;
 use std::path::Path;
 
 /// The copies of the oracle in force with a slip each: build.rs makes them.
 mod slips {
-    use reference::answers::Asked;
+    use super::Slip;
 
     include!(concat!(env!("OUT_DIR"), "/copies.rs"));
+}
+
+/// What goes wrong, whether the sites that tell it have workloads, and the copy with it.
+struct Slip {
+    name: &'static str,
+    what: &'static str,
+    weighed: bool,
+    asked: Asked,
 }
 
 /// Each slip's sites and the random ones are drawn from a beginning of their own: a slip more changes no other site.
@@ -22,67 +30,62 @@ fn drawing(name: &str) -> Random {
 
 /// How many sites tell a slip.
 const TELLING: usize = 3;
+/// How many random sites have workloads of 1, and how many others.
 const RANDOM: usize = 300;
+const RANDOM_WEIGHED: usize = 150;
 
-/// A question that a link file can hold.
-#[derive(Clone)]
-struct Question {
-    site: Site,
-    ranks: u32,
-    options: Options,
+/// A question that a link file can hold, of a random site of up to `size` vertices, cut to the file's limits.
+fn draw(random: &mut Random, size: usize) -> Question {
+    let site = sites::any(random, size);
+    let mut links = site.links();
+    while links.len() > LIMITS[1] as usize {
+        links.remove(random.index(links.len()));
+    }
+    let site = Site::new(site.vertices(), &links);
+    let ranks = 1 + random.index(site.vertices().min(LIMITS[2] as usize)) as u32;
+    let options = Options {
+        max_levels: random.pick(&[1, 2, 3, 12]),
+        coarse_vertices_per_rank: random.pick(&[1, 1, 2, 3, 64, u32::MAX.into()]),
+        imbalance_per_mille: random.pick(&[0, 30, 100, 200, 333, 334, 499, 500]),
+        refinement_passes: random.pick(&[1, 1, 2, 3, 10]),
+    };
+    Question::new(site, ranks, options)
 }
 
-impl Question {
-    /// Of a random site of up to `size` vertices, cut to the file's limits.
-    fn draw(random: &mut Random, size: usize) -> Self {
-        let site = sites::any(random, size);
-        let mut links = site.links();
-        while links.len() > LIMITS[1] as usize {
-            links.remove(random.index(links.len()));
-        }
-        let site = Site::new(site.vertices(), &links);
-        let ranks = 1 + random.index(site.vertices().min(LIMITS[2] as usize)) as u32;
-        let options = Options {
-            max_levels: random.pick(&[1, 2, 3, 12]),
-            coarse_vertices_per_rank: random.pick(&[1, 1, 2, 3, 64, u32::MAX.into()]),
-            imbalance_per_mille: random.pick(&[0, 30, 100, 200, 333, 334, 499, 500]),
-            refinement_passes: random.pick(&[1, 1, 2, 3, 10]),
-        };
-        Question { site, ranks, options }
-    }
+/// The same with workloads, and any imbalance: the wider it is, the more sites are divided.
+fn draw_weighed(random: &mut Random, size: usize) -> Question {
+    let mut question = draw(random, size);
+    question.options.imbalance_per_mille = random.between(0, 500).max(random.between(0, 500));
+    let workloads = sites::some_workloads(random, question.site.vertices());
+    question.weighed(workloads)
+}
 
-    /// What an accepted file asks.
-    fn of(file: &[u8]) -> Option<Self> {
-        let Contents { header, site } = check(file).ok()?;
-        let options = Options::of([header[3], header[4], header[5], header[6]].map(u64::from));
-        Some(Question { site, ranks: header[2], options })
-    }
+/// The file that asks it, without workloads where all are 1.
+fn file(question: &Question) -> Vec<u8> {
+    let Question { site, workloads, ranks, options } = question;
+    let mut header = [site.vertices() as u32, 0, *ranks, 0, 0, 0, 0];
+    header[3..].copy_from_slice(&options.numbers().map(|x| x as u32));
+    let links: Vec<_> = site.links().iter().map(|&(a, b)| (a as u32, b as u32)).collect();
+    let ones = workloads.iter().all(|&w| w == 1);
+    file_of(header, &links, if ones { &[] } else { workloads })
+}
 
-    fn file(&self) -> Vec<u8> {
-        let mut header = [self.site.vertices() as u32, 0, self.ranks, 0, 0, 0, 0];
-        header[3..].copy_from_slice(&self.options.numbers().map(|x| x as u32));
-        let links: Vec<_> = self.site.links().iter().map(|&(a, b)| (a as u32, b as u32)).collect();
-        file_of(header, &links)
-    }
-
-    /// Whether a copy with a slip answers otherwise than it should.
-    fn tells(&self, copy: Asked) -> bool {
-        let Question { site, ranks, options } = self;
-        let slip = oracle_partition(copy, &site.offsets, &site.neighbors, *ranks, *options);
-        slip != partition(&site.offsets, &site.neighbors, *ranks, *options)
-    }
+/// Whether a copy with a slip answers otherwise than it should.
+fn tells(question: &Question, slip: &Slip) -> bool {
+    oracle_partition(slip.asked, question) != partition(question)
 }
 
 /// The first questions that tell the slip: small sites come first.
-fn telling(name: &str, copy: Asked) -> Vec<Question> {
-    let mut random = drawing(name);
+fn telling(slip: &Slip) -> Vec<Question> {
+    let mut random = drawing(slip.name);
+    let draw = if slip.weighed { draw_weighed } else { draw };
     let mut found = Vec::new();
     for (size, tries) in
         [(4, 2_000), (6, 5_000), (9, 20_000), (14, 50_000), (24, 100_000), (40, 200_000), (64, 400_000)]
     {
         for _ in 0..tries {
-            let question = Question::draw(&mut random, size);
-            if question.tells(copy) {
+            let question = draw(&mut random, size);
+            if tells(&question, slip) {
                 found.push(question);
                 if found.len() == TELLING {
                     return found;
@@ -90,7 +93,7 @@ fn telling(name: &str, copy: Asked) -> Vec<Question> {
             }
         }
     }
-    assert!(!found.is_empty(), "no site tells the slip {name}");
+    assert!(!found.is_empty(), "no site tells the slip {}", slip.name);
     found
 }
 
@@ -103,9 +106,9 @@ pub fn answers(mut stdin: &[u8]) -> String {
         stdin = later;
     }
     assert!(stdin.is_empty(), "a request cut short");
-    let questions: Vec<_> = files.iter().filter_map(|file| Question::of(file)).collect();
-    for &(name, _, copy) in COPIES {
-        assert!(questions.iter().any(|q| q.tells(copy)), "no request tells the slip {name}");
+    let questions: Vec<_> = files.iter().filter_map(|file| check(file).ok()).map(|c| c.question()).collect();
+    for slip in SLIPS {
+        assert!(questions.iter().any(|q| tells(q, slip)), "no request tells the slip {}", slip.name);
     }
     files.iter().map(|file| listing(file)).collect()
 }
@@ -119,20 +122,22 @@ pub fn write(samples: Vec<(String, Vec<u8>)>, out: &Path) {
         files.push(file);
         writeln!(text, "| {} | sample {name} |", files.len()).expect("a string");
     }
-    for &(name, what, copy) in COPIES {
+    for slip in SLIPS {
+        let Slip { name, what, .. } = slip;
         let from = files.len() + 1;
-        let questions = telling(name, copy);
-        files.extend(questions.iter().map(Question::file));
+        let questions = telling(slip);
+        files.extend(questions.iter().map(file));
         let sizes: Vec<_> = questions.iter().map(|q| format!("n {} k {}", q.site.vertices(), q.ranks)).collect();
         writeln!(text, "| {from} to {} | slip `{name}`: {what} ({}) |", files.len(), sizes.join(", "))
             .expect("a string");
     }
-    let from = files.len() + 1;
-    let mut random = drawing("random sites");
-    for i in 0..RANDOM {
-        files.push(Question::draw(&mut random, if i % 10 == 0 { 64 } else { 20 }).file());
+    let random: [(&str, usize, fn(&mut Random, usize) -> Question); 2] =
+        [("random sites", RANDOM, draw), ("random sites with workloads", RANDOM_WEIGHED, draw_weighed)];
+    for (name, count, draw) in random {
+        let (from, mut random) = (files.len() + 1, drawing(name));
+        files.extend((0..count).map(|i| file(&draw(&mut random, if i % 10 == 0 { 64 } else { 20 }))));
+        writeln!(text, "| {from} to {} | {name} of all shapes |", files.len()).expect("a string");
     }
-    writeln!(text, "| {from} to {} | random sites of all shapes |", files.len()).expect("a string");
 
     let stdin: Vec<u8> = files.iter().flat_map(|f| [&(f.len() as u32).to_le_bytes()[..], f].concat()).collect();
     let stdout: String = files.iter().map(|f| listing(f)).collect();
