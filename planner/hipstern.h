@@ -22,7 +22,7 @@ extern "C" {
 /*
  * The cap: the most that one crew's load may be, floor(total * (1000 + imbalance_per_mille) / (1000 * ranks)).
  *
- *   total                the load of the whole site: its number of turbines while each weighs 1
+ *   total                the load of the whole site: the sum of its workloads, or its number of turbines if each is 1
  *   ranks                the number of crews
  *   imbalance_per_mille  how far a crew's load may be from an equal share, in thousandths of that share: 0 to 500
  *
@@ -52,10 +52,13 @@ uint64_t hipstern_minimum_load(uint64_t total, uint32_t ranks, uint32_t imbalanc
  *   HIPSTERN_OVER_LIMIT  more than 64 turbines, 128 links, 8 crews or 12 levels. Mend: divide the site into smaller ones,
  *                        or ask for fewer crews or levels. If the numbers look right, they may have been written with
  *                        their highest byte first: the lowest comes first.
- *   HIPSTERN_MALFORMED   not 28 + 8 * links bytes. Mend: the second number is the number of links; after the header come
- *                        as many low ends, then as many high ends, and nothing else.
+ *   HIPSTERN_MALFORMED   neither 28 + 8 * links bytes nor 28 + 8 * links + 4 * turbines. Mend: the second number is the
+ *                        number of links; after the header come as many low ends, then as many high ends, then a workload
+ *                        for each turbine, or none at all, and nothing else. Without workloads each is 1.
  *   HIPSTERN_MALFORMED   a wrong link. Mend: number the turbines from 0; give each link once, its lower end as the low
  *                        one; sort the links by low end, then by high end.
+ *   HIPSTERN_WORKLOAD    a workload of 0 or above 10,000. Mend: give each turbine at least 1, in a unit in which none needs
+ *                        more than 10,000.
  *
  * HIPSTERN_OK says that the file can be read. Its division may be refused all the same, for its options (1), its numbers
  * of turbines and crews (2), or because no permitted shares were found (6 to 9).
@@ -65,6 +68,7 @@ uint32_t hipstern_link_file_cause(const uint8_t *file, size_t length);
 #define HIPSTERN_OK 0u
 #define HIPSTERN_OVER_LIMIT 3u
 #define HIPSTERN_MALFORMED 10u
+#define HIPSTERN_WORKLOAD 13u
 
 #ifdef __cplusplus
 }

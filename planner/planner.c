@@ -22,7 +22,7 @@ static void print_load(const char *name, uint64_t load)
 
 static void print_loads(uint64_t total, uint32_t ranks, uint32_t imbalance_per_mille)
 {
-    printf("turbines %" PRIu64 " crews %" PRIu32 " imbalance %" PRIu32 ":", total, ranks, imbalance_per_mille);
+    printf("load %" PRIu64 " crews %" PRIu32 " imbalance %" PRIu32 ":", total, ranks, imbalance_per_mille);
     print_load("cap", hipstern_load_cap(total, ranks, imbalance_per_mille));
     print_load("floor", hipstern_minimum_load(total, ranks, imbalance_per_mille));
     printf("\n");
@@ -94,6 +94,9 @@ int main(int count, char **words)
     print_loads(64, 8, 0);
     print_loads(16384, 256, 500);
     print_loads(3, 7, 30);
+    /* workloads: those of samples/workloads5.links, and the most that a site's can sum to */
+    print_loads(22584, 3, 200);
+    print_loads(163840000, 256, 500);
     print_loads(0, 2, 30);
     /* the product saturates */
     print_loads(UINT64_MAX, 1, 500);
