@@ -41,7 +41,8 @@ abbrev pub ownersAfter : Outcome → List ℕ → List ℕ
 ownersAfter (refused number) owners = owners
 ownersAfter (divided written s) owners = written ++ drop (length written) owners
 
--- "after any division call past refusal 5 the needed work numbers are zero, those beyond untouched"; refusals 1 to 5 leave "everything lent"
+-- "after any division call past refusal 5 the needed work numbers are zero, those beyond untouched"; refusals 1 to 5, and 13
+-- among them, leave "everything lent"
 unfoldable pub workAfter : Call → List ℕ → List ℕ
 workAfter c work = cond (eqb (earlyCause c) 0) (replicate (needOf c) 0 ++ drop (needOf c) work) work
 

@@ -1,4 +1,4 @@
--- The sites by hand of 01, one for a request of 02, and the causes that come before the work, as two tables of claims. proofs/SiteLaws.antt proves
+-- The sites by hand of 01, some for requests of 02, and the causes that come before the work, as two tables of claims. proofs/SiteLaws.antt proves
 -- each table by computation. Assumes nothing.
 use Prim.Native.Nat.{ℕ, _+_, _-_}
 use mathlib.Core.Bool.{_&&_, _||_}
@@ -155,7 +155,7 @@ eight =
           ∷ (5, 7) ∷ [];
     }
 
--- every case of the list, starred or not; then the one of 02
+-- every case of the list, starred or not; then those of 02
 unfoldable pub byHand : List Claim
 byHand =
     ends (site P4 2 (12, 64, 30, 2)) (divided (0 ∷ 0 ∷ 1 ∷ 1 ∷ []) (stats 0 4 0 0 0 0 2 2))
@@ -176,7 +176,7 @@ byHand =
     ∷ ends (site eight 3 (1, 2, 500, 3)) (divided (1 ∷ 1 ∷ 2 ∷ 2 ∷ 1 ∷ 2 ∷ 0 ∷ 1 ∷ []) (stats 1 4 4 0 0 3 20 12))
     ∷ []
 
--- ---- causes 1 to 5, each on a call for which later causes hold too
+-- ---- causes 1 to 5 and 13, each on a call for which later causes hold too
 
 -- a link between two vertices; with L = 1 and k = 2 it needs 2 owners and 194 work numbers
 abbrev pub pairOffsets : List ℕ

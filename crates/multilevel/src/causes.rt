@@ -1,4 +1,4 @@
-// The causes that a division tests before its work: 1 to 5 of the table.
+// The causes that a division tests before its work: 1 to 5 of document 01's table, and document 02's 13.
 ghost use mathlib.Core.Path.{_≡_};
 ghost use mathlib.Core.Bool.{_||_};
 ghost use lib.Dec.{ltb};

@@ -5,14 +5,16 @@ use mathlib.Core.Logic.{_≢_}
 use mathlib.Core.Bool.{Bool, true, false, cond}
 use mathlib.Core.List.{List, [], _∷_, _++_, map}
 use native.Mathlib.Omega.{arith}
-use lib.ListN.{length, set, replicate, length-set}
+use lib.ListN.{length, set, replicate, length-set, length-replicate, getD-replicate}
 use lib.Seq.{getD-set-other}
 use lib.Dec.{ltb, eqb}
 use borrow.Author.Tests.{ne-eqb, eqb-true, ltb-false}
 use Rattle.links.specs.Lists.{at, unassigned, any, foldl, sum, All}
+use Rattle.links.specs.Loads.{Balance}
 use Rattle.links.specs.Graph.{load, owned}
 use Rattle.stages.specs.Growth.{Choice, passes, claims, restarts, Turn, afterChoice, afterTurn, seedOwners, weightedMultisource, grown}
 use Rattle.stages.specs.Moves.{Step, move, swap, after}
+use Rattle.stages.specs.Swaps.{between, inBalance, keepsBalance}
 use Rattle.links.proofs.ListLaws.{split, eqb-sym, tally, count-cons, any-none}
 use Rattle.stages.proofs.CutLaws.{swap-ranks}
 use Rattle.stages.proofs.StepLaws.{Along, length-after, Swapped, Moved}
@@ -258,3 +260,19 @@ swaps-owned cap rows weights r (move v t ∷ ss) o n a = absurd (a .0)
 swaps-owned cap rows weights r (swap u v ∷ ss) o n a =
     swaps-owned cap rows weights r ss (after o (swap u v)) (length-after o (swap u v) ∙ n) (a .1)
     ∙ swap-owned o u v r (rw n (a .0 .0)) (rw n (a .0 .1)) (swap-ranks rows o u v (a .0 .2))
+
+-- where all weigh 1 a swap leaves every load as it was: that it is in balance before is the whole test
+pub ones-keep
+    : (b : Balance) (rows : List (List ℕ)) (own : List ℕ) (u v r : ℕ)
+    → u < length own
+    → v < length own
+    → (let ones : List ℕ = replicate (length own) 1 in keepsBalance b rows ones own (swap u v) r ≡ inBalance b rows ones own r)
+unfolding keepsBalance inBalance
+ones-keep b rows own u v r h k =
+    let n = length own in
+    let ones : List ℕ = replicate n 1 in
+    let one-u : at ones u ≡ 1 = getD-replicate n u 1 0 h in
+    let one-v : at ones v ≡ 1 = getD-replicate n v 1 0 k in
+    let same : load ones (after own (swap u v)) r ≡ load ones own r =
+    omega (arith, rw (one-u, one-v) at (load-swap ones own u v r h k (length-replicate n 1))) in
+    rw same (split (between (b .floor) (b .cap) (load ones own r)) (λ p. rw p) (λ p. rw p))

@@ -1,4 +1,4 @@
--- One of causes 1 to 5 refuses; else the needed work is lent to the division, and zeroed. Assumes nothing.
+-- One of the early causes refuses; else the needed work is lent to the division, and zeroed. Assumes nothing.
 use Prim.Native.Nat.{ℕ}
 use mathlib.Core.Path.{_≡_, _∙_, ap, sym, refl}
 use native.Mathlib.Omega.{arith}
@@ -11,7 +11,7 @@ use borrow.Author.Needs.{needs}
 use Rattle.multilevel.proofs.driver.abtm_multilevel_partition.Statement.{statement}
 use Rattle.multilevel.proofs.driver.abtm_multilevel_partition.Tie as tie
 
--- the call, that none of causes 1 to 5 is met, and how much work is needed
+-- the call, that none of the early causes is met, and how much work is needed
 abbrev call : tie.Start → Call
 call s = let a = s .args in callOf (a .offsets .now) (a .neighbors .now) (a .workloads .now) (a .ranks) (a .options) (length (a .owners .now)) (length (a .work .now))
 
