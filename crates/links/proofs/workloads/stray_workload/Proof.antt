@@ -36,9 +36,12 @@ bad-workload-requires c κs = search needs
 
 returns : tie.Need-returns Inv-loop μ-loop
 returns c =
-    let ws = c .before .before .before .before .before .before .args .workloads .now in
-    let l = c .before .before .before .before .loop in
-    sym (sym (l .inv .1) ∙ any-next ws (l .i) (c .before .before .before .loop-test .taken) ∙ rw (sym (c .before .bad-workload .ensures) ∙ c .if1 .taken))
+    let c3 = c .before .before .before in
+    let c4 = c3 .before in
+    let c6 = c4 .before .before in
+    let ws = c6 .args .workloads .now in
+    let l = c4 .loop in
+    sym (sym (l .inv .1) ∙ any-next ws (l .i) (c3 .loop-test .taken) ∙ rw (sym (c .before .bad-workload .ensures) ∙ c .if1 .taken))
 
 add-i : tie.Need-add-i Inv-loop μ-loop
 add-i c = search needs
@@ -48,14 +51,19 @@ loop-less c = search needs
 
 loop-again : tie.Need-loop-again Inv-loop μ-loop
 loop-again c =
-    let ws = c .before .before .before .before .before .before .args .workloads .now in
-    let l = c .before .before .before .before .loop in (
-      omega (arith, c .before .before .before .loop-test .taken),
-      rw (sym (c .before .bad-workload .ensures) ∙ c .if1 .left) at (sym (any-next ws (l .i) (c .before .before .before .loop-test .taken))) ∙ l .inv .1,
+    let c3 = c .before .before .before in
+    let c4 = c3 .before in
+    let c6 = c4 .before .before in
+    let ws = c6 .args .workloads .now in
+    let l = c4 .loop in (
+      omega (arith, c3 .loop-test .taken),
+      rw (sym (c .before .bad-workload .ensures) ∙ c .if1 .left) at (sym (any-next ws (l .i) (c3 .loop-test .taken))) ∙ l .inv .1,
     )
 
 returns-2 : tie.Need-returns-2 Inv-loop μ-loop
-returns-2 c = rw (drop-of-length-le (c .before .before .before .args .workloads .now) (c .loop-test .left)) at (c .before .loop .inv .1)
+returns-2 c =
+    let c3 = c .before .before .before in
+    rw (drop-of-length-le (c3 .args .workloads .now) (c .loop-test .left)) at (c .before .loop .inv .1)
 
 pub stray-workload-spec : {M : Type 1} → statement M
 stray-workload-spec =

@@ -15,12 +15,15 @@ use Rattle.multilevel.proofs.driver.abtm_multilevel_partition.Tie as ti
 abbrev call : tie.Start → Call
 call s = let a = s .args in callOf (a .offsets .now) (a .neighbors .now) (a .workloads .now) (a .ranks) (a .options) (length (a .owners .now)) (length (a .work .now))
 
-passes : (c : tie.Else1) → earlyCause (call (c .before .before .before .before .before .before .before)) ≡ 0
+abbrev start : tie.Else1 → tie.Start
+start c = c .before .before .before .before .before .before .before
+
+passes : (c : tie.Else1) → earlyCause (call (start c)) ≡ 0
 passes c = sym (c .before .early-cause .ensures) ∙ c .if1 .left
 
-need-is : (c : tie.After-work-need) → c .work-need .result ≡ needOf (call (c .before .before .before .before .before .before .before .before .before .before))
+need-is : (c : tie.After-work-need) → c .work-need .result ≡ needOf (call (start (c .before .before .before)))
 need-is c =
-    let a = c .before .before .before .before .before .before .before .before .before .before .args in
+    let a = start (c .before .before .before) .args in
     let m = length (a .neighbors .now) in
     let levels = a .options .«max_levels» in
     c .work-need .ensures
@@ -42,7 +45,7 @@ index-requires : tie.Need-index-requires
 index-requires c κs = search needs
 
 work-need-requires : tie.Need-work-need-requires
-work-need-requires c κs = rw (c .before .vertex-count .ensures, c .index .ensures) (whole-limits (call (c .before .before .before .before .before .before .before .before .before)) (passes (c .before .before)))
+work-need-requires c κs = rw (c .before .vertex-count .ensures, c .index .ensures) (whole-limits (call (start (c .before .before))) (passes (c .before .before)))
 
 sub-divide : tie.Need-sub-divide
 sub-divide c = search needs
@@ -54,14 +57,14 @@ part-divide-end : tie.Need-part-divide-end
 part-divide-end c =
     let n = c .before in
     let e = n .before .before .before in
-    let s = e .before .before .before .before .before .before .before in
+    let s = start e in
     omega (arith, whole-fits (call s) (passes e) (s .args .work .now) refl _ (need-is n))
 
 divide-requires : tie.Need-divide-requires
 divide-requires c κs =
     let n = c .before .before in
     let e = n .before .before .before in
-    let s = e .before .before .before .before .before .before .before in
+    let s = start e in
     whole-divisible (call s) (passes e) (s .args .work .now) refl _ (need-is n)
 
 fill-part-requires : tie.Need-fill-part-requires
@@ -77,7 +80,7 @@ returns-2 : tie.Need-returns-2
 returns-2 c =
     let n = c .before .before .before .before .before .before .before .before .before .before .before in
     let e = n .before .before .before in
-    let s = e .before .before .before .before .before .before .before in
+    let s = start e in
     let d = c .before .before .before .before .before .before .before .before .divide in
     whole-partitioned (call s) (passes e) (s .args .work .now) refl _ (need-is n) _ _ _ _ (c .before .before .fill-part .ensures ∙ whole-zeroed (call s) (passes e) (s .args .work .now) refl _ (need-is n) (d .last .1 .1 .1 .1 .1 .0) (d .kept .1 .1 .1 .1 .1 .0)) (d .ensures)
 

@@ -16,17 +16,20 @@ use Rattle.multilevel.proofs.driver.divide.Tie as tie
 abbrev call : tie.Start → Call
 call s = let a = s .args in callOf (a .offsets .now) (a .neighbors .now) (a .workloads .now) (a .asked .ranks) (a .asked .options) (length (a .owners .now)) (length (a .work .now))
 
-rules-are : (c : tie.After-rules-of) → c .rules-of .result ≡ rulesFor (call (c .before .before .before .before .before .before .before .before .before))
+abbrev start : tie.After-rules-of → tie.Start
+start c = c .before .before .before .before .before .before .before .before .before
+
+rules-are : (c : tie.After-rules-of) → c .rules-of .result ≡ rulesFor (call (start c))
 rules-are c =
-    let a = c .before .before .before .before .before .before .before .before .before .args in
+    let a = start c .args in
     let m = length (a .neighbors .now) in
     c .rules-of .ensures
     ∙ ap (λ (x : ℕ). rulesWith x m (c .before .total-of .result) (a .asked .ranks) (a .asked .options)) (c .before .before .vertex-count .ensures)
     ∙ ap (λ (x : ℕ). rulesWith (vertexCount (a .offsets .now)) m x (a .asked .ranks) (a .asked .options)) (c .before .total-of .ensures)
 
-level-is : (c : tie.After-level-at) → c .level-at .result ≡ siteLevel (call (c .before .before .before .before .before .before .before .before .before .before))
+level-is : (c : tie.After-level-at) → c .level-at .result ≡ siteLevel (call (start (c .before)))
 level-is c =
-    let a = c .before .before .before .before .before .before .before .before .before .before .args in
+    let a = start (c .before) .args in
     c .level-at .ensures ∙ ap (λ (x : ℕ). levelAt x (length (a .neighbors .now)) 0) (c .before .before .before .vertex-count .ensures)
 
 vertex-count-requires : tie.Need-vertex-count-requires
@@ -49,14 +52,14 @@ lay-site-requires : tie.Need-lay-site-requires
 lay-site-requires c κs =
     let l = c .before in
     let r = l .before in
-    let s = r .before .before .before .before .before .before .before .before .before in
+    let s = start r in
     code-fits (call s) (s .args .work .now) (s .pre) _ (rules-are r) _ (level-is l)
 
 solve-requires : tie.Need-solve-requires
 solve-requires c κs =
     let l = c .before .before .before .before .before in
     let r = l .before in
-    let s = r .before .before .before .before .before .before .before .before .before in
+    let s = start r in
     code-site (call s) (s .args .work .now) (s .pre) _ (rules-are r) _ (level-is l) _ (c .before .before .before .lay-site .ensures)
 
 enum-known-a : tie.Need-enum-known-a
@@ -78,7 +81,7 @@ returns c =
     let c9 = c5 .before .before .before .before in
     let l = c9 .before .before in
     let r = l .before in
-    let s = r .before .before .before .before .before .before .before .before .before in
+    let s = start r in
     code-refusal (call s) (s .args .work .now) (s .pre) _ (rules-are r) _ (level-is l) _ (c9 .lay-site .ensures)
     _ _ (c5 .solve .ensures) _ _ _ (c1 .enum-told .given .1) (c .number .ensures)
 
@@ -86,14 +89,14 @@ mul-lists : tie.Need-mul-lists
 mul-lists c =
     let l = c .before .before .before .before .before .before .before .before .before .before .before .before in
     let r = l .before in
-    let s = r .before .before .before .before .before .before .before .before .before in
+    let s = start r in
     omega (arith, rooms-small (call s) (s .args .work .now) (s .pre) _ (rules-are r) _ (level-is l), s .good)
 
 add-lists : tie.Need-add-lists
 add-lists c =
     let l = c .before .before .before .before .before .before .before .before .before .before .before .before .before in
     let r = l .before in
-    let s = r .before .before .before .before .before .before .before .before .before in
+    let s = start r in
     omega (arith, rooms-small (call s) (s .args .work .now) (s .pre) _ (rules-are r) _ (level-is l), s .good)
 
 finish-requires : tie.Need-finish-requires
@@ -103,7 +106,7 @@ finish-requires c κs =
     let c12 = c8 .before .before .before .before in
     let l = c12 .before .before in
     let r = l .before in
-    let s = r .before .before .before .before .before .before .before .before .before in
+    let s = start r in
     code-finishing (call s) (s .args .work .now) (s .pre) _ (rules-are r) _ (level-is l) _ (c12 .lay-site .ensures)
     _ _ (c8 .solve .ensures) _ (c4 .a .given .1)
 
@@ -115,7 +118,7 @@ write-owners-requires c κs =
     let c17 = c13 .before .before .before .before in
     let l = c17 .before .before in
     let r = l .before in
-    let s = r .before .before .before .before .before .before .before .before .before in
+    let s = start r in
     code-room (call s) (s .args .work .now) (s .pre) _ (rules-are r) _ (level-is l) _ (c17 .lay-site .ensures)
     _ _ (c13 .solve .ensures) _ (c9 .a .given .1) _ _ (c4 .finish .ensures)
 
@@ -137,7 +140,7 @@ returns-2 c =
     let c20 = c16 .before .before .before .before in
     let l = c20 .before .before in
     let r = l .before in
-    let s = r .before .before .before .before .before .before .before .before .before in
+    let s = start r in
     code-divided (call s) (s .args .work .now) (s .pre) _ (rules-are r) _ (level-is l) _ (c20 .lay-site .ensures)
     _ _ (c16 .solve .ensures) _ (c12 .a .given .1) _ _ (c7 .finish .ensures) _ _ (c .before .before .write-owners .ensures)
 

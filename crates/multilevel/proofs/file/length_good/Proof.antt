@@ -23,7 +23,8 @@ add-shorter c = search needs
 returns : tie.Need-returns
 unfolding goodLength
 returns c =
-    let b = c .before .before .before .before .args .b .now in
+    let c4 = c .before .before .before .before in
+    let b = c4 .args .b .now in
     let e : c .before .index .result ≡ linkCountOf b = c .before .index .ensures ∙ c .before .before .number-at .ensures in
     rw (eq-eqb (length b) (28 + 8 * linkCountOf b) (rw e at (c .if1 .taken)))
 
@@ -42,8 +43,11 @@ add-result c = search needs
 returns-2 : tie.Need-returns-2
 unfolding goodLength
 returns-2 c =
-    let b = c .before .before .before .before .before .before .args .b .now in
-    let e : c .before .before .before .index .result ≡ linkCountOf b = c .before .before .before .index .ensures ∙ c .before .before .before .before .number-at .ensures in
+    let c3 = c .before .before .before in
+    let c4 = c3 .before in
+    let c6 = c4 .before .before in
+    let b = c6 .args .b .now in
+    let e : c3 .index .result ≡ linkCountOf b = c3 .index .ensures ∙ c4 .number-at .ensures in
     let n : c .index2 .result ≡ vertexCountOf b = c .index2 .ensures ∙ c .before .number-at2 .ensures in
     rw (ne-eqb (length b) (28 + 8 * linkCountOf b) (λ z. c .before .before .if1 .left (rw e z)), e, n)
 

@@ -23,18 +23,23 @@ loop-holds : tie.Need-loop-holds Inv-loop μ-loop
 loop-holds c = (omega arith, refl)
 
 file-workload-requires : tie.Need-file-workload-requires Inv-loop μ-loop
-file-workload-requires c κs = (c .before .before .before .pre .0, c .before .before .before .pre .1, omega (arith, c .loop-test .taken, c .before .before .before .pre .2))
+file-workload-requires c κs =
+    let c3 = c .before .before .before in
+    (c3 .pre .0, c3 .pre .1, omega (arith, c .loop-test .taken, c3 .pre .2))
 
 bad-workload-requires : tie.Need-bad-workload-requires Inv-loop μ-loop
 bad-workload-requires c κs = search needs
 
 returns : tie.Need-returns Inv-loop μ-loop
 returns c =
-    let b = c .before .before .before .before .before .before .args .b .now in
-    let v = c .before .before .before .before .loop .v in
-    let h : v < length (fileWorkloads b) = omega (arith, c .before .before .before .loop-test .taken, c .before .before .before .before .before .before .pre .2, length-workloads b) in
+    let c3 = c .before .before .before in
+    let c4 = c3 .before in
+    let c6 = c4 .before .before in
+    let b = c6 .args .b .now in
+    let v = c4 .loop .v in
+    let h : v < length (fileWorkloads b) = omega (arith, c3 .loop-test .taken, c6 .pre .2, length-workloads b) in
     let bad : badWorkload (at (fileWorkloads b) v) ≡ true = ap badWorkload (sym (c .before .before .file-workload .ensures)) ∙ sym (c .before .bad-workload .ensures) ∙ c .if1 .taken in
-    sym (sym (c .before .before .before .before .loop .inv .1) ∙ any-drop (fileWorkloads b) v 0 h badWorkload ∙ rw bad)
+    sym (sym (c4 .loop .inv .1) ∙ any-drop (fileWorkloads b) v 0 h badWorkload ∙ rw bad)
 
 add-v : tie.Need-add-v Inv-loop μ-loop
 add-v c = search needs
@@ -44,16 +49,20 @@ loop-less c = search needs
 
 loop-again : tie.Need-loop-again Inv-loop μ-loop
 loop-again c =
-    let b = c .before .before .before .before .before .before .args .b .now in
-    let v = c .before .before .before .before .loop .v in
-    let h : v < length (fileWorkloads b) = omega (arith, c .before .before .before .loop-test .taken, c .before .before .before .before .before .before .pre .2, length-workloads b) in
+    let c3 = c .before .before .before in
+    let c4 = c3 .before in
+    let c6 = c4 .before .before in
+    let b = c6 .args .b .now in
+    let v = c4 .loop .v in
+    let h : v < length (fileWorkloads b) = omega (arith, c3 .loop-test .taken, c6 .pre .2, length-workloads b) in
     let good : badWorkload (at (fileWorkloads b) v) ≡ false = ap badWorkload (sym (c .before .before .file-workload .ensures)) ∙ sym (c .before .bad-workload .ensures) ∙ c .if1 .left in
-    (omega (arith, c .before .before .before .loop-test .taken), sym (rw good at (any-drop (fileWorkloads b) v 0 h badWorkload)) ∙ c .before .before .before .before .loop .inv .1)
+    (omega (arith, c3 .loop-test .taken), sym (rw good at (any-drop (fileWorkloads b) v 0 h badWorkload)) ∙ c4 .loop .inv .1)
 
 returns-2 : tie.Need-returns-2 Inv-loop μ-loop
 returns-2 c =
-    let b = c .before .before .before .args .b .now in
-    let h : length (fileWorkloads b) ≤ c .before .loop .v = omega (arith, c .loop-test .left, c .before .before .before .pre .2, length-workloads b) in
+    let c3 = c .before .before .before in
+    let b = c3 .args .b .now in
+    let h : length (fileWorkloads b) ≤ c .before .loop .v = omega (arith, c .loop-test .left, c3 .pre .2, length-workloads b) in
     rw (drop-of-length-le (fileWorkloads b) h) at (c .before .loop .inv .1)
 
 pub workload-bad-spec : {M : Type 1} → statement M

@@ -22,14 +22,17 @@ loop-holds : tie.Need-loop-holds Inv-loop μ-loop
 loop-holds c = (omega arith, refl)
 
 file-workload-requires : tie.Need-file-workload-requires Inv-loop μ-loop
-file-workload-requires c κs = (c .before .before .before .before .pre .0, c .before .before .before .before .pre .1, omega (arith, c .loop-test .taken, c .before .before .before .before .pre .2))
+file-workload-requires c κs =
+    let c4 = c .before .before .before .before in
+    (c4 .pre .0, c4 .pre .1, omega (arith, c .loop-test .taken, c4 .pre .2))
 
 mul-workloads : tie.Need-mul-workloads Inv-loop μ-loop
 mul-workloads c = search needs
 
 slice-write-workloads : tie.Need-slice-write-workloads Inv-loop μ-loop
 slice-write-workloads c =
-    let s = c .before .before .before .before .before in
+    let c5 = c .before .before .before .before .before in
+    let s = c5 in
     let l = c .before .before .loop in
     let n = length-workloads (s .args .b .now) in
     omega (arith, c .before .loop-test .taken, s .pre .3, front-length _ _ _ (l .v) (l .inv .1) (omega (arith, n, s .pre .2, l .inv .0)) (omega (arith, s .pre .3, l .inv .0)))
@@ -42,7 +45,8 @@ loop-less c = search needs
 
 loop-again : tie.Need-loop-again Inv-loop μ-loop
 loop-again c =
-    let s = c .before .before .before .before .before in
+    let c5 = c .before .before .before .before .before in
+    let s = c5 in
     let l = c .before .before .loop in
     let h = c .before .loop-test .taken in
     let n = length-workloads (s .args .b .now) in (
@@ -52,14 +56,16 @@ loop-again c =
 
 same-length : tie.Need-same-length Inv-loop μ-loop
 same-length c =
-    let s = c .before .before .before .before in
+    let c4 = c .before .before .before .before in
+    let s = c4 in
     let l = c .before .loop in
     let n = length-workloads (s .args .b .now) in
     front-length _ _ _ (l .v) (l .inv .1) (omega (arith, n, s .pre .2, l .inv .0)) (omega (arith, s .pre .3, l .inv .0))
 
 returns : tie.Need-returns Inv-loop μ-loop
 returns c =
-    let s = c .before .before .before .before in
+    let c4 = c .before .before .before .before in
+    let s = c4 in
     let l = c .before .loop in
     let e : l .v ≡ vertexCountOf (s .args .b .now) = omega (arith, c .loop-test .left, l .inv .0, s .pre .2) in
     rw e at (front-end _ _ _ (l .v) (l .inv .1) (omega (arith, e, length-workloads (s .args .b .now))))
