@@ -4,10 +4,8 @@ use mathlib.Core.Path.{_≡_, refl, sym, _∙_}
 use mathlib.Core.Bool.{Bool, true, false, not, _||_, cond}
 use mathlib.Core.List.{List}
 use native.Mathlib.Omega.{arith}
-use native.Mathlib.Numerals.{add-one}
 use native.Mathlib.Nat.{mul-le-mul}
-use lib.ListN.{length, drop}
-use lib.Seq.{drop-cons}
+use lib.ListN.{length}
 use lib.Dec.{leb, ltb, eqb}
 use borrow.Author.Tests.{eqb-true, eq-eqb, ne-eqb, ltb-false, leb-false}
 use Rattle.links.specs.Lists.{at, sum}
@@ -21,9 +19,6 @@ use Rattle.links.proofs.OwnerLaws.{all-below}
 use Rattle.stages.specs.declared.level.HierarchyLevel.{HierarchyLevel}
 use Rattle.bridge_stages.specs.declared.lent.Place.{Place}
 use Rattle.bridge_stages.specs.Lent.{Lent, levelAt, placeFor, placeOf, needOf, overLimits, misfit, lentCause, Limited, LevelFits, LevelLaid, LevelIn}
-
-pub sum-drop : (xs : List ℕ) (i : ℕ) → i < length xs → sum (drop i xs) ≡ at xs i + sum (drop (i + 1) xs)
-sum-drop xs i h = rw (add-one, drop-cons xs i 0)
 
 -- ---- what the causes leave
 

@@ -11,7 +11,7 @@ use lib.ListN.{length, getD, set, take, drop, replicate}
 use lib.Seq.{take-suc, drop-cons, split-at}
 use lib.Dec.{eqb, ltb}
 use borrow.Author.Tests.{eq-eqb, ne-eqb, eqb-true, eqb-false, lt-ltb, le-ltb, ltb-true, ltb-false}
-use Rattle.links.specs.Lists.{All, above, filter, any, all, foldl, best, bestFrom, insert, sortBy, range, sum, concatMap, elem}
+use Rattle.links.specs.Lists.{at, All, above, filter, any, all, foldl, best, bestFrom, insert, sortBy, range, sum, concatMap, elem}
 
 -- by cases on a test, with the equation at hand
 pub split {ℓ} : {A : Type ℓ} (b : Bool) → (b ≡ true → A) → (b ≡ false → A) → A
@@ -426,6 +426,17 @@ module _ {A : Type 0} (xs : List A) (i : ℕ) (d : A) (h : i < length xs) where
 
   pub all-getD : (P : A → Type 0) → All P xs → P (getD xs i d)
   all-getD P a = all-at P xs (take i xs) (drop (suc i) xs) (getD xs i d) a (split-at xs i d h)
+
+-- numbers gone through from i on: whether one passes, and their sum
+module _ (xs : List ℕ) (i : ℕ) (h : i < length xs) where
+  pub any-yes : (p : ℕ → Bool) → p (at xs i) ≡ true → any p (drop i xs) ≡ true
+  any-yes p e = any-drop xs i 0 h p ∙ rw e
+
+  pub any-no : (p : ℕ → Bool) → p (at xs i) ≡ false → any p (drop i xs) ≡ any p (drop (i + 1) xs)
+  any-no p e = any-drop xs i 0 h p ∙ rw e
+
+  pub sum-drop : sum (drop i xs) ≡ at xs i + sum (drop (i + 1) xs)
+  sum-drop = rw (add-one, drop-cons xs i 0)
 
 pub elem-take : (x : ℕ) (xs : List ℕ) (i : ℕ) → i < length xs → elem x (take (i + 1) xs) ≡ (elem x (take i xs) || eqb x (getD xs i 0))
 elem-take x xs i h = rw (add-one, take-suc xs i 0) (elem-append x (take i xs) (getD xs i 0 ∷ []) ∙ split (eqb x (getD xs i 0)) (λ p. rw p) (λ p. rw p))

@@ -6,8 +6,7 @@ use Prim.Native.Nat.{ℕ, suc, _+_, _-_, _*_, _≤_, _<_}
 use native.Mathlib.Omega.{arith}
 use native.Mathlib.Numerals.{add-one}
 use lib.Dec.{eqb}
-use lib.ListN.{length, drop}
-use lib.Seq.{drop-cons}
+use lib.ListN.{length}
 use borrow.Author.Tests.{eqb-true, eqb-false}
 use Rattle.links.specs.Lists.{at, unassigned, filter, any, foldl, range}
 use Rattle.links.proofs.ListLaws.{split, count-append, any-counts, none-counts as none-left}
@@ -138,14 +137,6 @@ module _ {l : GrowthRoom} {cap : ℕ} {w w′ w₂ : List ℕ} {i c e x : ℕ} (
     vacant = omega (arith, b .vacant, t .vacant, ec);
     few = (omega (arith, b .few .0, ec, one-or (eqb x 0)), omega (arith, b .few .1, ee, or-one (eqb x 2)));
   }
-
--- ---- is there one that passes?
-
-pub any-yes : (p : ℕ → Bool) (xs : List ℕ) (i : ℕ) → i < length xs → p (at xs i) ≡ true → any p (drop i xs) ≡ true
-any-yes p xs i h e = ap (any p) (drop-cons xs i 0 h) ∙ rw e
-
-pub any-no : (p : ℕ → Bool) (xs : List ℕ) (i : ℕ) → i < length xs → p (at xs i) ≡ false → any p (drop i xs) ≡ any p (drop (i + 1) xs)
-any-no p xs i h e = ap (any p) (drop-cons xs i 0 h) ∙ rw (e, add-one i)
 
 -- ---- is a group left that nobody owns?
 

@@ -5,7 +5,7 @@ use native.Mathlib.Omega.{arith}
 use lib.ListN.{length, drop, drop-of-length-le}
 use borrow.Author.Tests.{le-leb, lt-leb}
 use Rattle.links.specs.Lists.{sum}
-use Rattle.bridge_stages.proofs.LentLaws.{sum-drop}
+use Rattle.links.proofs.ListLaws.{sum-drop}
 use borrow.Author.Needs.{needs}
 use Rattle.bridge_stages.proofs.lent.heavy.Statement.{statement}
 use Rattle.bridge_stages.proofs.lent.heavy.Tie as tie

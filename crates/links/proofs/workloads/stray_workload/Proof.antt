@@ -1,20 +1,14 @@
 -- The invariant: from i on there is a bad workload just where there is one at all. Assumes nothing.
-use Prim.Native.Nat.{ℕ, _≤_, _<_, _-_, _+_}
+use Prim.Native.Nat.{_≤_, _-_}
 use mathlib.Core.Path.{_≡_, refl, sym, _∙_}
-use mathlib.Core.Bool.{true, cond}
-use mathlib.Core.List.{List}
 use native.Mathlib.Omega.{arith}
-use native.Mathlib.Numerals.{add-one}
 use lib.ListN.{length, drop, drop-of-length-le}
-use lib.Seq.{drop-cons}
 use borrow.Author.Needs.{needs}
-use Rattle.links.specs.Lists.{at, any}
+use Rattle.links.specs.Lists.{any}
 use Rattle.links.specs.Workloads.{badWorkload}
+use Rattle.links.proofs.ListLaws.{any-yes, any-no}
 use Rattle.links.proofs.workloads.stray_workload.Statement.{statement}
 use Rattle.links.proofs.workloads.stray_workload.Tie as tie
-
-any-next : (ws : List ℕ) (i : ℕ) → i < length ws → any badWorkload (drop i ws) ≡ cond (badWorkload (at ws i)) true (any badWorkload (drop (i + 1) ws))
-any-next ws i h = rw (drop-cons ws i 0 h, add-one i)
 
 abbrev Inv-loop : tie.InvT-loop
 Inv-loop workloads i₀ i = (i ≤ length workloads) × (any badWorkload (drop i workloads) ≡ any badWorkload workloads)
@@ -41,7 +35,7 @@ returns c =
     let c6 = c4 .before .before in
     let ws = c6 .args .workloads .now in
     let l = c4 .loop in
-    sym (sym (l .inv .1) ∙ any-next ws (l .i) (c3 .loop-test .taken) ∙ rw (sym (c .before .bad-workload .ensures) ∙ c .if1 .taken))
+    sym (sym (l .inv .1) ∙ any-yes ws (l .i) (c3 .loop-test .taken) badWorkload (sym (c .before .bad-workload .ensures) ∙ c .if1 .taken))
 
 add-i : tie.Need-add-i Inv-loop μ-loop
 add-i c = search needs
@@ -57,7 +51,7 @@ loop-again c =
     let ws = c6 .args .workloads .now in
     let l = c4 .loop in (
       omega (arith, c3 .loop-test .taken),
-      rw (sym (c .before .bad-workload .ensures) ∙ c .if1 .left) at (sym (any-next ws (l .i) (c3 .loop-test .taken))) ∙ l .inv .1,
+      sym (any-no ws (l .i) (c3 .loop-test .taken) badWorkload (sym (c .before .bad-workload .ensures) ∙ c .if1 .left)) ∙ l .inv .1,
     )
 
 returns-2 : tie.Need-returns-2 Inv-loop μ-loop

@@ -1,6 +1,6 @@
 -- The tests in their order, each of which may rest on those before it. Assumes nothing.
 use Prim.Native.Nat.{ℕ}
-use mathlib.Core.Bool.{true, false}
+use mathlib.Core.Bool.{Bool, true, false}
 use mathlib.Core.Path.{_≡_, refl, sym, ap, _∙_}
 use lib.ListN.{length}
 use Rattle.links.specs.Graph.{vertexCount, badLists}
@@ -8,7 +8,7 @@ use Rattle.links.specs.Workloads.{badWorkloads, workloadsCause}
 use Rattle.links.specs.Options.{badOptions}
 use Rattle.links.proofs.ListTestLaws.{lists-bad, lists-fine}
 use Rattle.links.proofs.WorkloadLaws.{workloads-bad, workloads-fine}
-use Rattle.multilevel.specs.Causes.{Call, callOf, badCounts, overLimits, tooShort}
+use Rattle.multilevel.specs.Causes.{Call, callOf, badCounts, overLimits, firstOf, tooShort, earlyCause}
 use Rattle.multilevel.proofs.CauseLaws.{limited, options-bad, options-fine, counts-as, limits-as, room-as, early-is}
 use borrow.Author.Needs.{needs}
 use Rattle.multilevel.proofs.causes.early_cause.Statement.{statement}
@@ -60,6 +60,17 @@ workloads-pass c =
     let a = start (first d) in
     workloads-fine (vertexCount (a .offsets)) (a .workloads) (c .before .workloads-cause .result)
     (c .before .workloads-cause .ensures ∙ ap (λ (x : ℕ). workloadsCause x (a .workloads)) (d .before .before .before .vertex-count .ensures)) (c .if5 .left)
+
+-- all but the last
+all-passed
+    : (c : tie.Else5) (b : Bool)
+    → (let a = start (first (second (third (fourth c)))) in tooShort a ≡ b → firstOf false false false false false b ≡ earlyCause a)
+all-passed c b e =
+    let c4 = fourth c in
+    let c3 = third c4 in
+    let c2 = second c3 in
+    let c1 = first c2 in
+    early-is (start c1) false false false false false b (options-pass c1) (counts-pass c2) (limits-pass c3) (lists-pass c4) (workloads-pass c) e
 
 -- ---- the tests
 
@@ -128,23 +139,15 @@ too-short-requires c κs = let c3 = third (fourth c) in limited _ _ _ _ (sym (c3
 returns-6 : tie.Need-returns-6
 unfolding tooShort
 returns-6 c =
-    let c5 = c .before .before in
-    let c4 = fourth c5 in
-    let c3 = third c4 in
-    let c2 = second c3 in
-    let c1 = first c2 in
-    early-is (start c1) false false false false false true (options-pass c1) (counts-pass c2) (limits-pass c3) (lists-pass c4) (workloads-pass c5)
+    let c2 = second (third (fourth (c .before .before))) in
+    all-passed (c .before .before) true
     (room-as (c2 .before .before .before .vertex-count .ensures) (c2 .before .before .index .ensures) _ _ _ _ (c .before .too-short .ensures) (c .if6 .taken))
 
 returns-7 : tie.Need-returns-7
 unfolding tooShort
 returns-7 c =
-    let c5 = c .before .before in
-    let c4 = fourth c5 in
-    let c3 = third c4 in
-    let c2 = second c3 in
-    let c1 = first c2 in
-    early-is (start c1) false false false false false false (options-pass c1) (counts-pass c2) (limits-pass c3) (lists-pass c4) (workloads-pass c5)
+    let c2 = second (third (fourth (c .before .before))) in
+    all-passed (c .before .before) false
     (room-as (c2 .before .before .before .vertex-count .ensures) (c2 .before .before .index .ensures) _ _ _ _ (c .before .too-short .ensures) (c .if6 .left))
 
 pub early-cause-spec : {M : Type 1} → statement M

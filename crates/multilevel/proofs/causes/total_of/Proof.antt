@@ -1,18 +1,13 @@
 -- The invariant: with what is left, the sum so far is the sum of all. Assumes nothing.
-use Prim.Native.Nat.{ℕ, _≤_, _<_, _-_, _+_, _*_}
+use Prim.Native.Nat.{_≤_, _-_, _+_, _*_}
 use mathlib.Core.Path.{_≡_}
-use mathlib.Core.List.{List}
 use native.Mathlib.Omega.{arith}
-use native.Mathlib.Numerals.{add-one}
 use lib.ListN.{length, drop, drop-of-length-le}
-use lib.Seq.{drop-cons}
-use Rattle.links.specs.Lists.{at, sum}
+use Rattle.links.specs.Lists.{sum}
+use Rattle.links.proofs.ListLaws.{sum-drop}
 use borrow.Author.Needs.{needs}
 use Rattle.multilevel.proofs.causes.total_of.Statement.{statement}
 use Rattle.multilevel.proofs.causes.total_of.Tie as tie
-
-sum-next : (ws : List ℕ) (i : ℕ) → i < length ws → sum (drop i ws) ≡ at ws i + sum (drop (i + 1) ws)
-sum-next ws i h = rw (drop-cons ws i 0 h, add-one i)
 
 abbrev Inv-loop : tie.InvT-loop
 Inv-loop workloads total₀ i₀ total i = (i ≤ length workloads) × (total ≤ 4294967296 * i) × (total + sum (drop i workloads) ≡ sum workloads)
@@ -48,7 +43,7 @@ loop-again c =
     let ws = c .before .before .before .before .before .args .workloads .now in (
       omega (arith, c .before .before .loop-test .taken),
       omega (arith, c .before .shared-slice-known2 .given (l .i), c .wide .ensures, l .inv .1),
-      omega (arith, c .wide .ensures, l .inv .2, sum-next ws (l .i) (c .before .before .loop-test .taken)),
+      omega (arith, c .wide .ensures, l .inv .2, sum-drop ws (l .i) (c .before .before .loop-test .taken)),
     )
 
 returns : tie.Need-returns Inv-loop μ-loop

@@ -1,11 +1,54 @@
 -- The tests in their order, each of which may rest on those before it. Assumes nothing.
-use mathlib.Core.Path.{sym, _∙_}
-use mathlib.Core.Bool.{true, false}
+use Prim.Native.Nat.{ℕ}
+use mathlib.Core.Path.{_≡_, sym, _∙_}
+use mathlib.Core.Bool.{Bool, true, false, cond}
+use mathlib.Core.List.{List}
 use borrow.Author.Tests.{not-true, not-false}
+use Rattle.links.specs.Lists.{any}
+use Rattle.links.specs.Workloads.{badWorkload}
+use Rattle.multilevel.specs.File.{linkCountOf, overProgramLimits, goodLength, goodLinks, fileWorkloads, fileCause, Sized}
 use Rattle.multilevel.proofs.FileLaws.{file-short, file-over, file-length, file-links, file-workloads, file-sized}
 use borrow.Author.Needs.{needs}
 use Rattle.multilevel.proofs.file.link_file_cause.Statement.{statement}
 use Rattle.multilevel.proofs.file.link_file_cause.Tie as tie
+
+-- ---- each test passed, and the one before it
+
+abbrev bytes : tie.Else1 → List ℕ
+bytes c = c .before .before .args .b .now
+
+abbrev first : tie.Else2 → tie.Else1
+first c = c .before .before
+
+abbrev second : tie.Else3 → tie.Else2
+second c = c .before .before
+
+abbrev third : tie.Else4 → tie.Else3
+third c = c .before .before .before .before .before
+
+limits-pass : (c : tie.Else2) → false ≡ overProgramLimits (bytes (first c))
+limits-pass c = sym (c .if2 .left) ∙ c .before .over-limits .ensures
+
+length-pass : (c : tie.Else3) → true ≡ goodLength (bytes (first (second c)))
+length-pass c = sym (not-false _ (c .if3 .left)) ∙ c .before .length-good .ensures
+
+links-pass : (c : tie.Else4) → true ≡ goodLinks (bytes (first (second (third c))))
+links-pass c = sym (not-false _ (c .if4 .left)) ∙ c .before .links-good .ensures
+
+-- what the tests of links and workloads take
+sized : (c : tie.Else3) (e : ℕ) → (let b = bytes (first (second c)) in e ≡ linkCountOf b → Sized b e)
+sized c e q =
+    let c2 = second c in
+    file-sized (bytes (first c2)) (first c2 .if1 .left) (limits-pass c2) (length-pass c) e q
+
+workloads-told
+    : (c : tie.Else4) (r : Bool) → (let b = bytes (first (second (third c))) in r ≡ any badWorkload (fileWorkloads b) → cond r 13 0 ≡ fileCause b)
+workloads-told c r q =
+    let c3 = third c in
+    let c2 = second c3 in
+    file-workloads (bytes (first c2)) (first c2 .if1 .left) (limits-pass c2) (length-pass c3) (links-pass c) r q
+
+-- ---- the tests
 
 returns : tie.Need-returns
 returns c = file-short (c .before .before .args .b .now) (c .if1 .taken)
@@ -15,19 +58,16 @@ over-limits-requires c κs = search needs
 
 returns-2 : tie.Need-returns-2
 returns-2 c =
-    let c4 = c .before .before .before .before in
-    file-over (c4 .args .b .now) (c .before .before .if1 .left) (sym (c .if2 .taken) ∙ c .before .over-limits .ensures)
+    let c1 = c .before .before in
+    file-over (bytes c1) (c1 .if1 .left) (sym (c .if2 .taken) ∙ c .before .over-limits .ensures)
 
 length-good-requires : tie.Need-length-good-requires
 length-good-requires c κs = search needs
 
 returns-3 : tie.Need-returns-3
 returns-3 c =
-    let c3 = c .before .before .before in
-    let c4 = c3 .before in
-    let c6 = c4 .before .before in
-    let k = sym (c .before .before .if2 .left) ∙ c3 .over-limits .ensures in
-    file-length (c6 .args .b .now) (c4 .if1 .left) k (sym (not-true _ (c .if3 .taken)) ∙ c .before .length-good .ensures)
+    let c2 = c .before .before in
+    file-length (bytes (first c2)) (first c2 .if1 .left) (limits-pass c2) (sym (not-true _ (c .if3 .taken)) ∙ c .before .length-good .ensures)
 
 number-at-requires : tie.Need-number-at-requires
 number-at-requires c κs = search needs
@@ -40,78 +80,29 @@ index-requires c κs = search needs
 
 links-good-requires : tie.Need-links-good-requires
 links-good-requires c κs =
-    let c3 = c .before .before .before in
-    let c4 = c3 .before in
-    let c5 = c4 .before in
-    let c6 = c5 .before in
-    let c7 = c6 .before in
-    let c9 = c7 .before .before in
-    let k = sym (c5 .if2 .left) ∙ c6 .over-limits .ensures in
-    let g = sym (not-false _ (c3 .if3 .left)) ∙ c4 .length-good .ensures in
-    (file-sized (c9 .args .b .now) (c7 .if1 .left) k g (c .index .result) (c .index .ensures ∙ c .before .number-at2 .ensures), c .before .before .number-at .ensures)
+    let n = c .before .before in
+    (sized (n .before) (c .index .result) (c .index .ensures ∙ c .before .number-at2 .ensures), n .number-at .ensures)
 
 returns-4 : tie.Need-returns-4
 returns-4 c =
-    let c5 = c .before .before .before .before .before in
-    let c6 = c5 .before in
-    let c7 = c6 .before in
-    let c8 = c7 .before in
-    let c9 = c8 .before in
-    let c11 = c9 .before .before in
-    let k = sym (c7 .if2 .left) ∙ c8 .over-limits .ensures in
-    let g = sym (not-false _ (c5 .if3 .left)) ∙ c6 .length-good .ensures in
-    file-links (c11 .args .b .now) (c9 .if1 .left) k g (sym (not-true _ (c .if4 .taken)) ∙ c .before .links-good .ensures)
+    let c3 = c .before .before .before .before .before in
+    let c2 = second c3 in
+    file-links (bytes (first c2)) (first c2 .if1 .left) (limits-pass c2) (length-pass c3) (sym (not-true _ (c .if4 .taken)) ∙ c .before .links-good .ensures)
 
 index-requires-2 : tie.Need-index-requires-2
 index-requires-2 c κs = search needs
 
 workload-bad-requires : tie.Need-workload-bad-requires
 workload-bad-requires c κs =
-    let c3 = c .before .before .before in
-    let c4 = c3 .before in
-    let c5 = c4 .before in
-    let c6 = c5 .before in
-    let c7 = c6 .before in
-    let c8 = c7 .before in
-    let c9 = c8 .before in
-    let c10 = c9 .before in
-    let c12 = c10 .before .before in
-    let k = sym (c8 .if2 .left) ∙ c9 .over-limits .ensures in
-    let g = sym (not-false _ (c6 .if3 .left)) ∙ c7 .length-good .ensures in (
-      file-sized (c12 .args .b .now) (c10 .if1 .left) k g (c3 .index .result) (c3 .index .ensures ∙ c4 .number-at2 .ensures),
-      sym g,
-      c .index2 .ensures ∙ c5 .number-at .ensures,
-    )
+    let e = c .before .before .before in
+    let n = e .before .before in
+    (sized (n .before) (e .index .result) (e .index .ensures ∙ e .before .number-at2 .ensures), sym (length-pass (n .before)), c .index2 .ensures ∙ n .number-at .ensures)
 
 returns-5 : tie.Need-returns-5
-returns-5 c =
-    let c3 = c .before .before .before in
-    let c4 = c3 .before in
-    let c8 = c4 .before .before .before .before in
-    let c9 = c8 .before in
-    let c10 = c9 .before in
-    let c11 = c10 .before in
-    let c12 = c11 .before in
-    let c14 = c12 .before .before in
-    let k = sym (c10 .if2 .left) ∙ c11 .over-limits .ensures in
-    let g = sym (not-false _ (c8 .if3 .left)) ∙ c9 .length-good .ensures in
-    let l = sym (not-false _ (c3 .if4 .left)) ∙ c4 .links-good .ensures in
-    file-workloads (c14 .args .b .now) (c12 .if1 .left) k g l true (sym (c .if5 .taken) ∙ c .before .workload-bad .ensures)
+returns-5 c = workloads-told (c .before .before .before) true (sym (c .if5 .taken) ∙ c .before .workload-bad .ensures)
 
 returns-6 : tie.Need-returns-6
-returns-6 c =
-    let c3 = c .before .before .before in
-    let c4 = c3 .before in
-    let c8 = c4 .before .before .before .before in
-    let c9 = c8 .before in
-    let c10 = c9 .before in
-    let c11 = c10 .before in
-    let c12 = c11 .before in
-    let c14 = c12 .before .before in
-    let k = sym (c10 .if2 .left) ∙ c11 .over-limits .ensures in
-    let g = sym (not-false _ (c8 .if3 .left)) ∙ c9 .length-good .ensures in
-    let l = sym (not-false _ (c3 .if4 .left)) ∙ c4 .links-good .ensures in
-    file-workloads (c14 .args .b .now) (c12 .if1 .left) k g l false (sym (c .if5 .left) ∙ c .before .workload-bad .ensures)
+returns-6 c = workloads-told (c .before .before .before) false (sym (c .if5 .left) ∙ c .before .workload-bad .ensures)
 
 pub link-file-cause-spec : {M : Type 1} → statement M
 link-file-cause-spec =

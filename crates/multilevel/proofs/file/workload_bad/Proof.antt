@@ -6,7 +6,7 @@ use native.Mathlib.Omega.{arith}
 use lib.ListN.{length, drop, drop-of-length-le}
 use Rattle.links.specs.Lists.{at, any}
 use Rattle.links.specs.Workloads.{badWorkload}
-use Rattle.links.proofs.ListLaws.{any-drop}
+use Rattle.links.proofs.ListLaws.{any-yes, any-no}
 use Rattle.multilevel.specs.File.{fileWorkloads}
 use Rattle.multilevel.proofs.FileWorkloadLaws.{length-workloads}
 use borrow.Author.Needs.{needs}
@@ -39,7 +39,7 @@ returns c =
     let v = c4 .loop .v in
     let h : v < length (fileWorkloads b) = omega (arith, c3 .loop-test .taken, c6 .pre .2, length-workloads b) in
     let bad : badWorkload (at (fileWorkloads b) v) ≡ true = ap badWorkload (sym (c .before .before .file-workload .ensures)) ∙ sym (c .before .bad-workload .ensures) ∙ c .if1 .taken in
-    sym (sym (c4 .loop .inv .1) ∙ any-drop (fileWorkloads b) v 0 h badWorkload ∙ rw bad)
+    sym (sym (c4 .loop .inv .1) ∙ any-yes (fileWorkloads b) v h badWorkload bad)
 
 add-v : tie.Need-add-v Inv-loop μ-loop
 add-v c = search needs
@@ -56,7 +56,7 @@ loop-again c =
     let v = c4 .loop .v in
     let h : v < length (fileWorkloads b) = omega (arith, c3 .loop-test .taken, c6 .pre .2, length-workloads b) in
     let good : badWorkload (at (fileWorkloads b) v) ≡ false = ap badWorkload (sym (c .before .before .file-workload .ensures)) ∙ sym (c .before .bad-workload .ensures) ∙ c .if1 .left in
-    (omega (arith, c3 .loop-test .taken), sym (rw good at (any-drop (fileWorkloads b) v 0 h badWorkload)) ∙ c4 .loop .inv .1)
+    (omega (arith, c3 .loop-test .taken), sym (any-no (fileWorkloads b) v h badWorkload good) ∙ c4 .loop .inv .1)
 
 returns-2 : tie.Need-returns-2 Inv-loop μ-loop
 returns-2 c =

@@ -7,7 +7,7 @@ use lib.ListN.{length, drop, drop-of-length-le}
 use borrow.Author.Tests.{lt-ltb, le-ltb}
 use Rattle.links.specs.Lists.{at}
 use Rattle.stages.specs.GrowthCode.{tooHeavy}
-use Rattle.stages.proofs.GrowthRoundLaws.{any-yes, any-no}
+use Rattle.links.proofs.ListLaws.{any-yes, any-no}
 use borrow.Author.Needs.{needs}
 use Rattle.stages.proofs.growth.any_heavy.Statement.{statement}
 use Rattle.stages.proofs.growth.any_heavy.Tie as tie
@@ -37,7 +37,7 @@ returns c =
     let c6 = c4 .before .before in
     let a = c6 .args in
     let i = c4 .loop .i in
-    sym (sym (c4 .loop .inv .1) ∙ any-yes (ltb (a .cap)) (a .weights .now) i (c3 .loop-test .taken) (lt-ltb (a .cap) (at (a .weights .now) i) (rw (c .before .wide .ensures) at (c .if1 .taken))))
+    sym (sym (c4 .loop .inv .1) ∙ any-yes (a .weights .now) i (c3 .loop-test .taken) (ltb (a .cap)) (lt-ltb (a .cap) (at (a .weights .now) i) (rw (c .before .wide .ensures) at (c .if1 .taken))))
 
 add-i : tie.Need-add-i Inv-loop μ-loop
 add-i c = search needs
@@ -50,7 +50,7 @@ loop-again c =
     let a = c .before .before .before .before .before .before .args in
     let i = c .before .before .before .before .loop .i in (
       omega (arith, c .before .before .before .loop-test .taken),
-      sym (any-no (ltb (a .cap)) (a .weights .now) i (c .before .before .before .loop-test .taken) (le-ltb (a .cap) (at (a .weights .now) i) (rw (c .before .wide .ensures) at (c .if1 .left))))
+      sym (any-no (a .weights .now) i (c .before .before .before .loop-test .taken) (ltb (a .cap)) (le-ltb (a .cap) (at (a .weights .now) i) (rw (c .before .wide .ensures) at (c .if1 .left))))
           ∙ c .before .before .before .before .loop .inv .1,
     )
 
