@@ -5,7 +5,7 @@ use crate::bridge;
 use crate::bridge_stages::{Level, Rules};
 use crate::levels::{self, MAX_TOTAL};
 use crate::report::{Check, Report};
-use reference::answers::{MAX_NEIGHBORS, MAX_RANKS, MAX_VERTICES, lists_cause, refine_by_cut, refine_fine_pair_swaps};
+use reference::answers::{self, MAX_NEIGHBORS, MAX_RANKS, MAX_VERTICES, lists_cause};
 use reference::random::Random;
 use reference::unchanged::stages;
 
@@ -79,7 +79,7 @@ fn moves(check: &mut Check, level: &Level, t: u32, passes: u64) -> u64 {
     let mut work = noise(level.need());
     let answer = level.moves(rules(level, t, passes), &mut work);
     let (rows, weights) = (level.rows(), wide(&level.weights));
-    let rust = refine_by_cut(&rows, &weights, level.ranks, &level.owners, t, passes as usize);
+    let rust = answers::moves(level.ranks)(&rows, &weights, level.ranks, &level.owners, t, passes as usize);
     let input = || format!("t {t}, passes {passes}, {level:?}");
     check.made(answer.1);
     check.outcomes(refined(level, answer, &work), checked(level, rust), input);
@@ -96,7 +96,7 @@ fn swaps(check: &mut Check, level: &Level, t: u32, passes: u64) -> u64 {
         number => Err(number),
     });
     let (rows, weights) = (level.rows(), wide(&level.weights));
-    let rust = refine_fine_pair_swaps(&rows, &weights, level.ranks, &level.owners, t, passes as usize);
+    let rust = answers::swaps(&weights)(&rows, &weights, level.ranks, &level.owners, t, passes as usize);
     check.made(answer.1);
     check.outcomes(ours, checked(level, rust), || format!("t {t}, passes {passes}, {level:?}"));
     answer.1

@@ -216,29 +216,16 @@ pub fn oracle_partition(oracle: Asked, question: &Question) -> Result<Division, 
     oracle(&matrix, &workloads, *ranks, options.numbers()).map_err(|e| refusal(&e, n, *ranks))
 }
 
-/// The moves of one level: owners and their number, or 9.
-pub fn refine_by_cut(
-    rows: &[Vec<usize>],
-    weights: &[usize],
-    ranks: u32,
-    owners: &[u32],
-    imbalance_per_mille: u32,
-    passes: usize,
-) -> Result<(Vec<u32>, usize), u32> {
-    let stage = if moves_changed(ranks) { in_force::stages::refine_by_cut } else { stages::refine_by_cut };
-    stage(rows, weights, ranks, owners, imbalance_per_mille, passes)
+/// The moves or the swaps of one level, of rows, weights, ranks, owners, imbalance and passes: the owners and the number of steps, or
+/// a refusal.
+pub type Refine = fn(&[Vec<usize>], &[usize], u32, &[u32], u32, usize) -> Result<(Vec<u32>, usize), u32>;
+
+/// The moves that are expected among so many ranks.
+pub fn moves(ranks: u32) -> Refine {
+    if moves_changed(ranks) { in_force::stages::refine_by_cut } else { stages::refine_by_cut }
 }
 
-/// The swaps of one level: owners and their number, or the number of the Rust's check of the owners.
-pub fn refine_fine_pair_swaps(
-    rows: &[Vec<usize>],
-    weights: &[usize],
-    ranks: u32,
-    owners: &[u32],
-    imbalance_per_mille: u32,
-    passes: usize,
-) -> Result<(Vec<u32>, usize), u32> {
-    let stage =
-        if swaps_changed(weights) { in_force::stages::refine_fine_pair_swaps } else { stages::refine_fine_pair_swaps };
-    stage(rows, weights, ranks, owners, imbalance_per_mille, passes)
+/// The swaps that are expected of vertices with these weights.
+pub fn swaps(weights: &[usize]) -> Refine {
+    if swaps_changed(weights) { in_force::stages::refine_fine_pair_swaps } else { stages::refine_fine_pair_swaps }
 }

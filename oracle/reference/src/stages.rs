@@ -52,10 +52,17 @@ pub fn weighted_multisource_partition(
         .map_err(number)
 }
 
-/// What moves and swaps take: the rows as a matrix, and the owners, untested.
-fn owned_matrix(rows: &[Vec<usize>], ranks: RankId, owners: &[RankId]) -> (Csr32Matrix, PartitionAssignment) {
+/// Moves or swaps, which take the rows as a matrix and the owners untested: the owners that they leave, and their number.
+fn refined(
+    rows: &[Vec<usize>],
+    ranks: RankId,
+    owners: &[RankId],
+    refine: impl FnOnce(&Csr32Matrix, &mut PartitionAssignment) -> Result<usize, DistributedTopologyError>,
+) -> Result<(Vec<RankId>, usize), u32> {
     let matrix = super::matrix_from_adjacency(rows).expect("rows make a matrix");
-    (matrix, PartitionAssignment::untested(ranks, owners.to_vec()))
+    let mut assignment = PartitionAssignment::untested(ranks, owners.to_vec());
+    let steps = refine(&matrix, &mut assignment).map_err(number)?;
+    Ok((assignment.owners().to_vec(), steps))
 }
 
 /// Moves: the owners and the number of moves, or 9.
@@ -67,10 +74,7 @@ pub fn refine_by_cut(
     imbalance_per_mille: u32,
     passes: usize,
 ) -> Result<(Vec<RankId>, usize), u32> {
-    let (matrix, mut assignment) = owned_matrix(rows, ranks, owners);
-    super::refine_by_cut(&matrix, weights, &mut assignment, imbalance_per_mille, passes)
-        .map(|moves| (assignment.owners().to_vec(), moves))
-        .map_err(number)
+    refined(rows, ranks, owners, |m, a| super::refine_by_cut(m, weights, a, imbalance_per_mille, passes))
 }
 
 /// Swaps: the owners and the number of swaps.
@@ -82,10 +86,7 @@ pub fn refine_fine_pair_swaps(
     imbalance_per_mille: u32,
     passes: usize,
 ) -> Result<(Vec<RankId>, usize), u32> {
-    let (matrix, mut assignment) = owned_matrix(rows, ranks, owners);
-    super::refine_fine_pair_swaps(&matrix, weights, &mut assignment, imbalance_per_mille, passes)
-        .map(|swaps| (assignment.owners().to_vec(), swaps))
-        .map_err(number)
+    refined(rows, ranks, owners, |m, a| super::refine_fine_pair_swaps(m, weights, a, imbalance_per_mille, passes))
 }
 
 /// Of a coarse level a rank count too great is the 7 of too few groups.
