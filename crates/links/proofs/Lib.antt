@@ -10,3 +10,4 @@ pub mod OwnerLaws
 pub mod RangeLaws
 pub mod PackLaws
 pub mod WorkloadLaws
+pub mod OptionLaws

@@ -9,9 +9,9 @@ use native.Mathlib.Numerals.{add-one}
 use native.Mathlib.Omega.{arith}
 use lib.ListN.{length, getD, set, take, drop, replicate}
 use lib.Seq.{take-suc, drop-cons, split-at}
-use lib.Dec.{eqb, ltb}
-use borrow.Author.Tests.{eq-eqb, ne-eqb, eqb-true, eqb-false, lt-ltb, le-ltb, ltb-true, ltb-false}
-use Rattle.links.specs.Lists.{at, All, above, filter, any, all, foldl, best, bestFrom, insert, sortBy, range, sum, concatMap, elem}
+use lib.Dec.{eqb, ltb, leb}
+use borrow.Author.Tests.{eq-eqb, ne-eqb, eqb-true, eqb-false, lt-ltb, le-ltb, ltb-true, ltb-false, lt-leb, le-leb, leb-true}
+use Rattle.links.specs.Lists.{at, All, above, between, filter, any, all, foldl, best, bestFrom, insert, sortBy, range, sum, concatMap, elem}
 
 -- by cases on a test, with the equation at hand
 pub split {ℓ} : {A : Type ℓ} (b : Bool) → (b ≡ true → A) → (b ≡ false → A) → A
@@ -40,6 +40,20 @@ and-l false b e = absurd (false≢true e)
 pub and-r : (a b : Bool) → a && b ≡ true → b ≡ true
 and-r true b e = e
 and-r false b e = absurd (false≢true e)
+
+-- ---- from least to most
+
+pub between-under : (least most x : ℕ) → x < least → false ≡ between least most x
+between-under least most x h = rw (lt-leb least x h)
+
+pub between-from : (least most x : ℕ) → least ≤ x → leb x most ≡ between least most x
+between-from least most x h = rw (le-leb least x h)
+
+pub between-least : (least most x : ℕ) → between least most x ≡ true → least ≤ x
+between-least least most x e = leb-true least x (and-l (leb least x) (leb x most) e)
+
+pub between-most : (least most x : ℕ) → between least most x ≡ true → x ≤ most
+between-most least most x e = leb-true x most (and-r (leb least x) (leb x most) e)
 
 pub and-i : (a b : Bool) → a ≡ true → b ≡ true → a && b ≡ true
 and-i a b e f = rw (e, f)
@@ -128,6 +142,16 @@ module _ {A B : Type 0} where
       → foldl f y xs ≡ foldl g y xs
   foldl-in P f g e [] y a = refl
   foldl-in P f g e (x ∷ xs) y a = foldl-in P f g e xs (f y x) (a .1) ∙ ap (λ (z : B). foldl g z xs) (e y x (a .0))
+
+  -- the first n of what f makes
+  pub map-take : (f : A → B) (n : ℕ) (xs : List A) → map f (take n xs) ≡ take n (map f xs)
+  map-take f zero xs = refl
+  map-take f (suc n) [] = refl
+  map-take f (suc n) (x ∷ xs) = ap (λ (t : List B). f x ∷ t) (map-take f n xs)
+
+pub length-insert : {A : Type 0} (before : A → A → Bool) (x : A) (xs : List A) → length (insert before x xs) ≡ suc (length xs)
+length-insert before x [] = refl
+length-insert before x (y ∷ ys) = split (before x y) (λ p. rw p) (λ p. rw p (ap suc (length-insert before x ys)))
 
 -- ---- counts
 

@@ -5,7 +5,7 @@ use mathlib.Core.List.{List, [], _∷_, map}
 use Prim.Native.Nat.{ℕ, zero, suc, _+_, _-_, _≤_, _<_}
 use native.Mathlib.Nat.{not-suc-le-zero, le-of-suc-le-suc, zero-add}
 use native.Mathlib.Omega.{arith}
-use borrow.Author.Tests.{le-leb, lt-leb, leb-true, leb-false, ltb-true, eq-eqb, ne-eqb}
+use borrow.Author.Tests.{le-leb, lt-leb, leb-true, leb-false, ltb-true, ltb-false, eq-eqb, ne-eqb}
 use lib.Dec.{eqb, leb, ltb}
 use lib.ListN.{length, getD, length-map, List·getD-eq-default}
 use Rattle.links.specs.Lists.{at, All, all, range, elem}
@@ -49,6 +49,16 @@ rises-by (x ∷ xs) e zero (suc j) h k = split (all (ltb x) xs)
 rises-by (x ∷ xs) e (suc i) (suc j) h k = split (all (ltb x) xs)
     (λ p. rises-by xs (rw p at e) i j (le-of-suc-le-suc h) (le-of-suc-le-suc k))
     (λ p. absurd (false≢true (rw p at e)))
+
+-- of numbers below n it has at most n
+pub rises-few : (xs : List ℕ) → strictlyRising xs ≡ true → (n : ℕ) → ((i : ℕ) → i < length xs → at xs i < n) → length xs ≤ n
+rises-few xs e n f = split (ltb n (length xs))
+    (λ p. let l = ltb-true n (length xs) p in absurd (omega (arith, from n l, f n l)))
+    (λ p. ltb-false n (length xs) p)
+  where
+    from : (i : ℕ) → i < length xs → i ≤ at xs i
+    from zero h = omega arith
+    from (suc i) h = omega (arith, from i (omega arith), rises-by xs e i (suc i) (omega arith) h)
 
 module _ (o l : List ℕ) (s : SoundLists o l) where
   climb : (a d : ℕ) → a + d ≤ vertexCount o → at o a ≤ at o (a + d)

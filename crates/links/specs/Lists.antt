@@ -4,7 +4,7 @@ use mathlib.Core.Bool.{Bool, true, false, _&&_, _||_, cond}
 use mathlib.Core.List.{List, [], _∷_, _++_}
 use mathlib.Core.Option.{Option, none, some}
 use lib.ListN.{getD}
-use lib.Dec.{ltb, eqb}
+use lib.Dec.{ltb, leb, eqb}
 
 -- the number at i, 0 past the end
 abbrev pub at : List ℕ → ℕ → ℕ
@@ -78,6 +78,10 @@ module _ {A B : Type 0} where
 -- a above b, or as high and the next test passes: one key of an order by several
 abbrev pub above : ℕ → ℕ → Bool → Bool
 above a b next = ltb b a || (eqb a b && next)
+
+-- x from least to most
+abbrev pub between : ℕ → ℕ → ℕ → Bool
+between least most x = leb least x && leb x most
 
 -- what holds of each of a list
 abbrev pub All : {A : Type 0} → (A → Type 0) → List A → Type 0

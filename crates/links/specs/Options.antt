@@ -1,7 +1,8 @@
 -- The options and the stats of a division, as the structs of src/options.rt have them. Assumes nothing.
 use Prim.Native.Nat.{ℕ, _+_, _*_, max}
-use mathlib.Core.Bool.{Bool, _||_, cond}
+use mathlib.Core.Bool.{Bool, not, _||_, cond}
 use lib.Dec.{ltb, eqb}
+use Rattle.links.specs.Lists.{between}
 use Rattle.links.specs.Loads.{saturating}
 use Rattle.links.specs.declared.options.AbtmMultilevelOptions.{AbtmMultilevelOptions}
 use Rattle.links.specs.declared.options.AbtmMultilevelStats.{AbtmMultilevelStats}
@@ -11,8 +12,24 @@ unfoldable pub badOptions : AbtmMultilevelOptions → Bool
 badOptions o =
     eqb (o .«max_levels») 0 || eqb (o .«coarse_vertices_per_rank») 0 || eqb (o .«refinement_passes») 0 || ltb 500 (o .«imbalance_per_mille»)
 
+-- "list length 1 to 12"
+unfoldable pub badListLength : ℕ → Bool
+badListLength n = not (between 1 12 n)
+
+-- cause 17: "17 for either outside its range", "list length 1 to 12, factor 1 to 8"
+unfoldable pub badSwaps : AbtmMultilevelOptions → Bool
+badSwaps o = badListLength (o .«swap_list_length») || not (between 1 8 (o .«swap_pass_factor»))
+
+-- 17 "after 1"
 unfoldable pub optionsCause : AbtmMultilevelOptions → ℕ
-optionsCause o = cond (badOptions o) 1 0
+optionsCause o = cond (badOptions o) 1 (cond (badSwaps o) 17 0)
+
+-- "defaults 8 and 4", which the link file keeps
+abbrev pub defaultListLength : ℕ
+defaultListLength = 8
+
+abbrev pub defaultPassFactor : ℕ
+defaultPassFactor = 4
 
 -- rule 8: "max(k, k × coarse_vertices_per_rank), saturating"
 unfoldable pub stopSize : AbtmMultilevelOptions → ℕ → ℕ

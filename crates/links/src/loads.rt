@@ -1,6 +1,7 @@
 // Rule 1: the cap and the floor of a rank's load.
 ghost use mathlib.Core.Path.{_≡_};
 ghost use Prim.Native.Nat.{_+_, _*_};
+ghost use Rattle.links.specs.Lists.{between};
 ghost use Rattle.links.specs.Loads.{saturating, share, loadCap, minimumLoad};
 
 const U64_MAX: u64 = 0xffff_ffff_ffff_ffff;
@@ -22,6 +23,17 @@ pub fn saturating_add(a: u64, b: u64) -> u64
     ensures { λ r. ⌜ r ≡ saturating (a + b) ⌝ }
 {
     if U64_MAX - a < b { U64_MAX } else { a + b }
+}
+
+// Whether x is from least to most.
+// Rules out: either end refused; a number above taken where the least is above the most.
+pub fn between(least: u64, most: u64, x: u64) -> bool
+    ensures { λ b. ⌜ b ≡ between least most x ⌝ }
+{
+    if x < least {
+        return false;
+    }
+    x <= most
 }
 
 // The rule over either number of per mille.

@@ -1,6 +1,7 @@
 // The options and the stats of a division, by value.
 ghost use mathlib.Core.Path.{_≡_};
-ghost use Rattle.links.specs.Options.{optionsCause, stopSize, zeroStats, addedPairs, addedMoves, grownStats, measuredStats};
+ghost use Rattle.links.specs.Options.{badListLength, badSwaps, optionsCause, stopSize, zeroStats, addedPairs, addedMoves, grownStats, measuredStats};
+use crate::loads::between;
 use crate::loads::saturating_add;
 use crate::loads::saturating_mul;
 
@@ -9,6 +10,8 @@ pub struct AbtmMultilevelOptions {
     pub coarse_vertices_per_rank: u64,
     pub imbalance_per_mille: u64,
     pub refinement_passes: u64,
+    pub swap_list_length: u64,
+    pub swap_pass_factor: u64,
 }
 
 pub struct AbtmMultilevelStats {
@@ -22,9 +25,17 @@ pub struct AbtmMultilevelStats {
     pub final_communication_volume: u64,
 }
 
+// Whether a list of the swaps' candidates may not be so long.
+// Rules out: a list of 12 refused; one of 2^32 + 8 taken for 8.
+pub fn bad_list_length(length: u64) -> bool
+    ensures { λ b. ⌜ b ≡ badListLength length ⌝ }
+{
+    !between(1, 12, length)
+}
+
 impl AbtmMultilevelOptions {
-    // 0, or 1.
-    // Rules out: an imbalance of 500 refused; one of 2^32 + 30 taken for 30.
+    // 0, 1 or 17.
+    // Rules out: an imbalance of 500 refused; one of 2^32 + 30 taken for 30; 17 where 1 holds too.
     pub fn validate(self) -> u32
         ensures { λ r. ⌜ r ≡ optionsCause self ⌝ }
     {
@@ -40,7 +51,17 @@ impl AbtmMultilevelOptions {
         if self.imbalance_per_mille > 500 {
             return 1;
         }
-        0
+        if self.bad_swaps() { 17 } else { 0 }
+    }
+
+    // Whether the list length or the pass factor is out of its range.
+    fn bad_swaps(self) -> bool
+        ensures { λ b. ⌜ b ≡ badSwaps self ⌝ }
+    {
+        if bad_list_length(self.swap_list_length) {
+            return true;
+        }
+        !between(1, 8, self.swap_pass_factor)
     }
 
     // Coarsening stops at so many groups.
