@@ -1,7 +1,7 @@
 pub mod LoadSetLaws
 pub mod TallyLaws
 pub mod SlotLaws
-pub mod SlotOrderLaws
+pub mod KeyLaws
 pub mod TargetLaws
 pub mod MovesLaws
 pub mod TallySliceLaws

@@ -2,7 +2,7 @@
 use Prim.Native.Nat.{ℕ, zero, suc, _+_, _-_, _*_, _≤_, _<_}
 use mathlib.Core.Path.{_≡_, refl, sym, ap, _∙_}
 use mathlib.Core.Bool.{Bool, true, false, not, cond, true≢false}
-use mathlib.Core.List.{List}
+use mathlib.Core.List.{List, map}
 use mathlib.Core.Logic.{_⊎_, inl, inr, ⊎-elim}
 use native.Mathlib.Omega.{arith}
 use native.Mathlib.Nat.{mul-le-mul-right}
@@ -14,16 +14,17 @@ use Rattle.links.specs.Lists.{at, any, insert}
 use Rattle.links.specs.Parts.{part, putBack, Kept}
 use Rattle.links.specs.Graph.{row, linksIn, linksTo}
 use Rattle.links.proofs.ListLaws.{split, tally, any-of, to-any, elem-map}
-use Rattle.links.proofs.PartLaws.{getD-part, part-putBack, kept-refl, kept-trans, kept-wide, kept-set, kept-putBack, kept-part-before, kept-part-after}
+use Rattle.links.proofs.PartLaws.{getD-part, length-part, part-putBack, kept-refl, kept-trans, kept-wide, kept-set, kept-putBack, kept-part-before, kept-part-after}
 use Rattle.stages.specs.Level.{offsetsAt, neighborsAt, rowsAt, ownersAt}
-use Rattle.stages.specs.Swaps.{Candidate, ahead, candidates}
-use Rattle.stages.specs.Slots.{candidate, slots, Sorted}
+use Rattle.stages.specs.Swaps.{candidates}
+use Rattle.stages.specs.Keys.{candidate, keyOf, higher, filled, Falling}
 use Rattle.stages.specs.MovesCode.{Clear, Tallied}
-use Rattle.stages.specs.SwapsCode.{listPlace, listAt, Given, AllSorted, bordering, Offered, Waiting, Met, Offering, OfferedEntry, Listed, Holding}
+use Rattle.stages.specs.SwapsCode.{listPlace, listAt, Given, AllSorted, FewTallied, bordering, Offered, Waiting, Met, Offering, OfferedEntry, Listed, Holding}
 use Rattle.stages.specs.declared.swaps.SwapRoom.{SwapRoom}
 use Rattle.stages.proofs.TallyLaws.{any-cons, any-nothing, links-cons, links-none, links-some}
 use Rattle.stages.proofs.LevelLaws.{length-neighbors, all-vertices, neighbors-kept, row-part, row-ends, rows-kept, owners-kept, beneath}
-use Rattle.stages.proofs.SwapListLaws.{offer-other, offer-none, offer-some, listedTo, listed-more, listed-all}
+use Rattle.stages.proofs.SwapListLaws.{offer-other, offer-none, offer-some, listedTo, listed-more, links-few, listed-all}
+use Rattle.stages.proofs.SwapsSliceLaws.{rows-short, rows-few, vertices-are}
 use Rattle.stages.proofs.SwapStepLaws.{given-after}
 
 -- ---- the places of k × k lists
@@ -57,66 +58,72 @@ module _ {w w′ : List ℕ} (s : SwapRoom) where
   -- a list stays where something before the lists changed, or another list
   part-kept
       : {x e : ℕ} → Kept x e w′ w → e ≤ s .lists → (a b : ℕ)
-      → part w′ (listPlace s a b) (listPlace s a b + 24) ≡ part w (listPlace s a b) (listPlace s a b + 24)
-  part-kept {x} {e} k h a b = kept-part-after x e w′ w k (listPlace s a b) (listPlace s a b + 24) (omega arith)
+      → part w′ (listPlace s a b) (listPlace s a b + s .«list_length») ≡ part w (listPlace s a b) (listPlace s a b + s .«list_length»)
+  part-kept {x} {e} k h a b = kept-part-after x e w′ w k (listPlace s a b) (listPlace s a b + s .«list_length») (omega arith)
 
   pub list-kept : {x e : ℕ} → Kept x e w′ w → e ≤ s .lists → (a b : ℕ) → listAt w′ s a b ≡ listAt w s a b
-  list-kept k h a b = ap (slots candidate 8) (part-kept k h a b)
+  list-kept k h a b = ap filled (part-kept k h a b)
 
   pub sorted-kept : {x e : ℕ} → Kept x e w′ w → e ≤ s .lists → AllSorted w s → AllSorted w′ s
   sorted-kept k h o a b p q = rw (part-kept k h a b) (o a b p q)
 
   part-other
-      : (a b : ℕ)
-      → Kept (listPlace s a b) (listPlace s a b + 24) w′ w
+      : s .«list_length» ≤ 12
+      → (a b : ℕ)
+      → Kept (listPlace s a b) (listPlace s a b + s .«list_length») w′ w
       → (c d : ℕ)
       → b < s .limits .ranks
       → d < s .limits .ranks
       → ((c ≡ a) × (d ≡ b) → ⊥)
-      → part w′ (listPlace s c d) (listPlace s c d + 24) ≡ part w (listPlace s c d) (listPlace s c d + 24)
-  part-other a b k c d h m f =
+      → part w′ (listPlace s c d) (listPlace s c d + s .«list_length») ≡ part w (listPlace s c d) (listPlace s c d + s .«list_length»)
+  part-other few a b k c d h m f =
       let p = a * s .limits .ranks + b in
       let q = c * s .limits .ranks + d in
       split (ltb q p)
       (λ l.
       let z : q < p = ltb-true q p l in
-      kept-part-before (listPlace s a b) (listPlace s a b + 24) w′ w k (listPlace s c d) (listPlace s c d + 24) (omega arith))
+      kept-part-before (listPlace s a b) (listPlace s a b + s .«list_length») w′ w k (listPlace s c d) (listPlace s c d + s .«list_length») (omega arith))
       (λ l.
       let z : p ≤ q = ltb-false q p l in
       let y : p < q = split (ltb p q) (λ i. ltb-true p q i) (λ i. let j : q ≤ p = ltb-false p q i in absurd (f (pair-apart c d a b (s .limits .ranks) m h (omega arith)))) in
-      kept-part-after (listPlace s a b) (listPlace s a b + 24) w′ w k (listPlace s c d) (listPlace s c d + 24) (omega arith))
+      kept-part-after (listPlace s a b) (listPlace s a b + s .«list_length») w′ w k (listPlace s c d) (listPlace s c d + s .«list_length») (omega arith))
 
   pub list-other
-      : (a b : ℕ)
-      → Kept (listPlace s a b) (listPlace s a b + 24) w′ w
+      : s .«list_length» ≤ 12
+      → (a b : ℕ)
+      → Kept (listPlace s a b) (listPlace s a b + s .«list_length») w′ w
       → (c d : ℕ)
       → b < s .limits .ranks
       → d < s .limits .ranks
       → ((c ≡ a) × (d ≡ b) → ⊥)
       → listAt w′ s c d ≡ listAt w s c d
-  list-other a b k c d h m f = ap (slots candidate 8) (part-other a b k c d h m f)
+  list-other few a b k c d h m f = ap filled (part-other few a b k c d h m f)
 
   -- where one list changed and is sorted, and the others were
   pub sorted-other
-      : (a b : ℕ)
-      → Kept (listPlace s a b) (listPlace s a b + 24) w′ w
+      : s .«list_length» ≤ 12
+      → (a b : ℕ)
+      → Kept (listPlace s a b) (listPlace s a b + s .«list_length») w′ w
       → b < s .limits .ranks
-      → Sorted candidate ahead 8 (part w′ (listPlace s a b) (listPlace s a b + 24))
+      → Falling (part w′ (listPlace s a b) (listPlace s a b + s .«list_length»))
       → AllSorted w s
       → AllSorted w′ s
-  sorted-other a b k h here o c d p q = split (eqb c a)
+  sorted-other few a b k h here o c d p q = split (eqb c a)
       (λ x. split (eqb d b)
       (λ y. let e : c ≡ a = eqb-true c a x in let f : d ≡ b = eqb-true d b y in rw (e, f) here)
-      (λ y. let n = eqb-false d b y in rw (part-other a b k c d h q (λ z. n (z .1))) (o c d p q)))
-      (λ x. let n = eqb-false c a x in rw (part-other a b k c d h q (λ z. n (z .0))) (o c d p q))
+      (λ y. let n = eqb-false d b y in rw (part-other few a b k c d h q (λ z. n (z .1))) (o c d p q)))
+      (λ x. let n = eqb-false c a x in rw (part-other few a b k c d h q (λ z. n (z .0))) (o c d p q))
 
 -- empty lists are sorted
-pub sorted-empty : (w : List ℕ) (s : SwapRoom) → Clear w (s .lists) (24 * (s .limits .ranks * s .limits .ranks)) → AllSorted w s
-sorted-empty w s z a b p q i j h k f =
+pub sorted-empty : {w : List ℕ} {s : SwapRoom} → Given w s → Clear w (s .lists) (12 * (s .limits .ranks * s .limits .ranks)) → AllSorted w s
+sorted-empty {w} {s} g z a b p q i j h k =
     let l = listPlace s a b in
+    let few : s .«list_length» ≤ 12 = g .few-listed in
     let m = pair-below a b (s .limits .ranks) p q in
-    let e : s .lists + (24 * (a * s .limits .ranks + b) + 3 * j) ≡ l + 3 * j = omega arith in
-    absurd (f (getD-part w l (l + 24) (3 * j) (omega arith) ∙ (rw e at (z (24 * (a * s .limits .ranks + b) + 3 * j) (omega arith)))))
+    let n : j < s .«list_length» = omega (arith, length-part w l (l + s .«list_length») (omega arith) (omega (arith, g .lists-in))) in
+    let e : s .lists + (12 * (a * s .limits .ranks + b) + j) ≡ l + j = omega arith in
+    let y : at (part w l (l + s .«list_length»)) j ≡ 0 = getD-part w l (l + s .«list_length») j (omega arith) ∙ (rw e at (z (12 * (a * s .limits .ranks + b) + j) (omega arith))) in
+    omega arith
 
 -- the room stays where something from the used flags on changed
 module _ {w w′ : List ℕ} {s : SwapRoom} {x e : ℕ} (g : Given w s) (k : Kept x e w′ w) (h : s .used ≤ x) where
@@ -202,7 +209,7 @@ module _ {w₀ : List ℕ} {s : SwapRoom} {a v : ℕ} (g : Given w₀ s) (h : v 
           ⊎-elim
           (λ (x : Waiting w₀ w s a b v i to).
           let n : ltb 0 (count b) ≡ false = le-ltb 0 (count b) (omega (arith, x .tallied)) in
-          inr (record { cleared = y; offered = x .same ∙ sym (offer-none 8 (rowsAt w₀ (s .level)) os a b (listAt w₀ s a b) v n) }))
+          inr (record { cleared = y; offered = x .same ∙ sym (offer-none (s .«list_length») (rowsAt w₀ (s .level)) os a b (listAt w₀ s a b) v n) }))
           (λ (x : Met w₀ w s a b v). inr x)
           (o .each b p d))
           (λ q. waits-on b (eqb-false c b q) (o .each b p d));
@@ -218,13 +225,14 @@ module _ {w₀ : List ℕ} {s : SwapRoom} {a v : ℕ} (g : Given w₀ s) (h : v 
         → m ≡ at w (s .tallies + a)
         → (w₁ w₂ : List ℕ)
         → w₁ ≡ set w (s .tallies + c) 0
-        → Offered w₁ w₂ (listPlace s a c) (candidate t m v)
+        → Offered w₁ w₂ (listPlace s a c) (s .«list_length») (keyOf (candidate t m v))
         → Offering w₀ w₂ s a v (i + 1) to
     offering-new f cr t m et nz em w₁ w₂ e₁ d =
         let k = s .limits .ranks in
         let len : length w ≡ length w₀ = o .kept .same-length in
-        let room : s .lists + 24 * (k * k) ≤ length w₀ = g .lists-in in
+        let room : s .lists + 12 * (k * k) ≤ length w₀ = g .lists-in in
         let tin : s .tallies + k ≤ s .lists = g .tallies-in in
+        let few : s .«list_length» ≤ 12 = g .few-listed in
         let kept₁ : Kept (s .tallies) (s .lists) w₁ w =
         rw e₁ (kept-set (s .tallies) (s .lists) w w (s .tallies + c) 0 (kept-refl (s .tallies) (s .lists) w) (omega arith) (omega arith)) in
         let q : a * k + c < k * k = pair-below a c k a-in cr in
@@ -236,10 +244,10 @@ module _ {w₀ : List ℕ} {s : SwapRoom} {a v : ℕ} (g : Given w₀ s) (h : v 
         ap (λ (z : List ℕ). at z (s .tallies + c)) e₁ ∙ getD-set-same w (s .tallies + c) 0 0 (omega arith) in
         let list₁ : (x y : ℕ) → listAt w₁ s x y ≡ listAt w s x y = λ x y. list-kept s kept₁ (omega arith) x y in
         let list₂ : (x y : ℕ) → y < k → ((x ≡ a) × (y ≡ c) → ⊥) → listAt w₂ s x y ≡ listAt w s x y =
-        λ x y p r. list-other s a c (d .kept) x y cr p r ∙ list₁ x y in
+        λ x y p r. list-other s few a c (d .kept) x y cr p r ∙ list₁ x y in
         record {
           kept = kept-trans (s .tallies) (length w₀) w₂ w₁ w₀
-              (kept-wide (listPlace s a c) (listPlace s a c + 24) (s .tallies) (length w₀) w₂ w₁ (omega arith) (omega arith) (d .kept))
+              (kept-wide (listPlace s a c) (listPlace s a c + s .«list_length») (s .tallies) (length w₀) w₂ w₁ (omega arith) (omega arith) (d .kept))
               (kept-trans (s .tallies) (length w₀) w₁ w w₀ (kept-wide (s .tallies) (s .lists) (s .tallies) (length w₀) w₁ w (omega arith) (omega arith) kept₁) (o .kept));
           home = tallies₂ a a-in ∙ other₁ a f ∙ o .home;
           others = λ x y p r n. list₂ x y r (λ z. n (z .0)) ∙ o .others x y p r n;
@@ -249,16 +257,16 @@ module _ {w₀ : List ℕ} {s : SwapRoom} {a v : ℕ} (g : Given w₀ s) (h : v 
               ⊎-elim
               (λ (x : Waiting w₀ w s a b v i to).
               let tc : t ≡ count b = et ∙ rw e (x .tallied) in
-              let same : candidate t m v ≡ candidate (count b) (count a) v = rw (tc, em ∙ o .home) in
+              let same : keyOf (candidate t m v) ≡ keyOf (candidate (count b) (count a) v) = rw (tc, em ∙ o .home) in
               let yes : ltb 0 (count b) ≡ true = lt-ltb 0 (count b) (positive (count b) (λ z. nz (tc ∙ z))) in
               inr (record {
                 cleared = rw (← e) (tallies₂ c cr ∙ zero₁);
                 offered =
                     ap (listAt w₂ s a) (sym e)
                     ∙ d .here
-                    ∙ ap (λ (z : List Candidate). take 8 (insert ahead (candidate t m v) z)) (list₁ a c ∙ ap (listAt w s a) e ∙ x .same)
-                    ∙ ap (λ (z : Candidate). take 8 (insert ahead z (listAt w₀ s a b))) same
-                    ∙ sym (offer-some 8 (rowsAt w₀ (s .level)) os a b (listAt w₀ s a b) v is-a yes);
+                    ∙ ap (λ (z : List ℕ). take (s .«list_length») (insert higher (keyOf (candidate t m v)) z)) (list₁ a c ∙ ap (listAt w s a) e ∙ x .same)
+                    ∙ ap (λ (z : ℕ). take (s .«list_length») (insert higher z (listAt w₀ s a b))) same
+                    ∙ sym (offer-some (s .«list_length») (rowsAt w₀ (s .level)) os a b (listAt w₀ s a b) v is-a yes);
               }))
               (λ (x : Met w₀ w s a b v). absurd (nz (et ∙ rw e (x .cleared))))
               (o .each b p n))
@@ -277,13 +285,24 @@ module _ {w₀ : List ℕ} {s : SwapRoom} {a v : ℕ} (g : Given w₀ s) (h : v 
               (o .each b p n));
         }
 
+  -- no tally is above 16,384
+  pub offering-few : {w : List ℕ} {i e : ℕ} → Offering w₀ w s a v i e → FewTallied w s
+  offering-few {w} {i} {e} o r p =
+      let few : (b : ℕ) → count b ≤ 16384 = λ b. links-few (rowsAt w₀ (s .level)) (rows-few g) (rows-short g) os v b (rw (vertices-are g) h) in
+      split (eqb r a)
+      (λ q. let f : r ≡ a = eqb-true r a q in rw (f, o .home) (few a))
+      (λ q. ⊎-elim
+      (λ (x : Waiting w₀ w s a r v i e). rw (x .tallied) (few r))
+      (λ (x : Met w₀ w s a r v). rw (x .cleared) (omega arith))
+      (o .each r p (eqb-false r a q)))
+
   -- when all entries are passed, each rank was met
   pub offering-end : {w : List ℕ} → Offering w₀ w s a v to to → (b : ℕ) → b < s .limits .ranks → (b ≡ a → ⊥) → Met w₀ w s a b v
   offering-end {w} o b p d = ⊎-elim
       (λ (x : Waiting w₀ w s a b v to to).
       let z : count b ≡ 0 = sym (x .unmet) ∙ links-none ns os to b in
       let n : ltb 0 (count b) ≡ false = le-ltb 0 (count b) (omega arith) in
-      record { cleared = x .tallied ∙ z; offered = x .same ∙ sym (offer-none 8 (rowsAt w₀ (s .level)) os a b (listAt w₀ s a b) v n) })
+      record { cleared = x .tallied ∙ z; offered = x .same ∙ sym (offer-none (s .«list_length») (rowsAt w₀ (s .level)) os a b (listAt w₀ s a b) v n) })
       (λ (x : Met w₀ w s a b v). x)
       (o .each b p d)
 
@@ -304,7 +323,7 @@ listed {w} {s} {v} g h a av w₁ w₂ w₃ k₁ o sorted₂ e₃ =
     let k = s .limits .ranks in
     let l = s .level in
     let tin : s .tallies + k ≤ s .lists = g .tallies-in in
-    let lin : s .lists + 24 * (k * k) ≤ length w = g .lists-in in
+    let lin : s .lists + 12 * (k * k) ≤ length w = g .lists-in in
     let uin : s .used ≤ s .tallies = omega (arith, g .used-in, g .loads-in) in
     let g₁ : Given w₁ s = given-kept g k₁ uin in
     let os : ownersAt w₁ l ≡ ownersAt w l = owners-same g k₁ uin in
@@ -333,7 +352,7 @@ listed {w} {s} {v} g h a av w₁ w₂ w₃ k₁ o sorted₂ e₃ =
           rw (e, ← rs, ← os, ← list-kept s k₁ tin a y) (offering-end g₁ h av₁ o y q (λ z. d (e ∙ sym z)) .offered))
           (λ r. let n = eqb-false x a r in
           o .others x y p q n ∙ list-kept s k₁ tin x y
-          ∙ sym (offer-other 8 (rowsAt w l) (ownersAt w l) x y (listAt w s x y) v (ne-eqb _ _ (λ z. n (sym (av ∙ z))))));
+          ∙ sym (offer-other (s .«list_length») (rowsAt w l) (ownersAt w l) x y (listAt w s x y) v (ne-eqb _ _ (λ z. n (sym (av ∙ z))))));
     }
 
 -- ---- a vertex on no border
@@ -402,24 +421,24 @@ module _ {w : List ℕ} {s : SwapRoom} {v : ℕ} (g : Given w s) (h : v < s .lev
         let os = ownersAt w (s .level) in
         split (eqb (at os v) a)
         (λ x. let y : at os v ≡ a = eqb-true (at os v) a x in
-        sym (offer-none 8 (rowsAt w (s .level)) os a b (listAt w s a b) v (no-links (sym e ∙ f) b (λ n. d (sym y ∙ n)))))
-        (λ x. sym (offer-other 8 (rowsAt w (s .level)) os a b (listAt w s a b) v x));
+        sym (offer-none (s .«list_length») (rowsAt w (s .level)) os a b (listAt w s a b) v (no-links (sym e ∙ f) b (λ n. d (sym y ∙ n)))))
+        (λ x. sym (offer-other (s .«list_length») (rowsAt w (s .level)) os a b (listAt w s a b) v x));
   }
 
 -- ---- what the code's steps come to
 
 -- a list lent as a part
 pub offered-part
-    : (w ys : List ℕ) (a : ℕ) (x : Candidate)
-    → a + 24 ≤ length w
-    → length ys ≡ a + 24 - a
-    → slots candidate 8 ys ≡ take 8 (insert ahead x (slots candidate 8 (part w a (a + 24))))
-    → Sorted candidate ahead 8 ys
-    → Offered w (putBack w a (a + 24) ys) a x
-offered-part w ys a x h n e o = record {
-  here = ap (slots candidate 8) (part-putBack w a (a + 24) ys (omega arith) h n) ∙ e;
-  sorted = rw (part-putBack w a (a + 24) ys (omega arith) h n) o;
-  kept = kept-putBack w a (a + 24) ys (omega arith) h n;
+    : (w ys : List ℕ) (a n x : ℕ)
+    → a + n ≤ length w
+    → length ys ≡ a + n - a
+    → filled ys ≡ take n (insert higher x (filled (part w a (a + n))))
+    → Falling ys
+    → Offered w (putBack w a (a + n) ys) a n x
+offered-part w ys a n x h l e o = record {
+  here = ap filled (part-putBack w a (a + n) ys (omega arith) h l) ∙ e;
+  sorted = rw (part-putBack w a (a + n) ys (omega arith) h l) o;
+  kept = kept-putBack w a (a + n) ys (omega arith) h l;
 }
 
 -- an entry's owner, before v was offered anywhere
@@ -441,7 +460,7 @@ pub entry-sorted
     → AllSorted w s
     → (p : ℕ)
     → p ≡ listPlace s a c
-    → Sorted candidate ahead 8 (part (set w (s .tallies + c) 0) p (p + 24))
+    → Falling (part (set w (s .tallies + c) 0) p (p + s .«list_length»))
 entry-sorted {w} {s} a c g ar cr o p e =
     let k = kept-set (s .tallies) (s .lists) w w (s .tallies + c) 0 (kept-refl (s .tallies) (s .lists) w) (omega arith) (omega (arith, g .tallies-in)) in
     rw e (sorted-kept s k (omega arith) o a c ar cr)
@@ -468,23 +487,25 @@ module _ {w : List ℕ} {s : SwapRoom} {a v i : ℕ} (c : ℕ) (ec : c ≡ at (o
       → c < s .limits .ranks
       → (c ≡ a → ⊥)
       → (at w (s .tallies + c) ≡ 0 → ⊥)
-      → (w₂ : List ℕ) (p : ℕ)
+      → (w₂ : List ℕ) (p x : ℕ)
       → p ≡ listPlace s a c
-      → Offered (set w (s .tallies + c) 0) w₂ p (candidate (at w (s .tallies + c)) (at w (s .tallies + a)) v)
+      → x ≡ keyOf (candidate (at w (s .tallies + c)) (at w (s .tallies + a)) v)
+      → Offered (set w (s .tallies + c) 0) w₂ p (s .«list_length») x
       → OfferedEntry w w₂ s a v i
-  entry-new g o ar cr f nz w₂ p ep d =
+  entry-new g o ar cr f nz w₂ p x ep ex d =
       let k = s .limits .ranks in
       let w₁ = set w (s .tallies + c) 0 in
-      let d′ : Offered w₁ w₂ (listPlace s a c) (candidate (at w (s .tallies + c)) (at w (s .tallies + a)) v) = rw ep at d in
+      let few : s .«list_length» ≤ 12 = g .few-listed in
+      let d′ : Offered w₁ w₂ (listPlace s a c) (s .«list_length») (keyOf (candidate (at w (s .tallies + c)) (at w (s .tallies + a)) v)) = rw (ep, ex) at d in
       let n₁ : length w₁ ≡ length w = length-set w (s .tallies + c) 0 in
       let q : a * k + c < k * k = pair-below a c k ar cr in
       let tin : s .tallies + k ≤ s .lists = g .tallies-in in
-      let lin : s .lists + 24 * (k * k) ≤ length w = g .lists-in in
+      let lin : s .lists + 12 * (k * k) ≤ length w = g .lists-in in
       record {
         kept = kept-trans (s .tallies) (length w) w₂ w₁ w
-            (kept-wide (listPlace s a c) (listPlace s a c + 24) (s .tallies) (length w) w₂ w₁ (omega arith) (omega arith) (d′ .kept))
+            (kept-wide (listPlace s a c) (listPlace s a c + s .«list_length») (s .tallies) (length w) w₂ w₁ (omega arith) (omega arith) (d′ .kept))
             (kept-set (s .tallies) (length w) w w (s .tallies + c) 0 (kept-refl (s .tallies) (length w) w) (omega arith) (omega arith));
-        sorted = sorted-other s a c (d′ .kept) cr (d′ .sorted)
+        sorted = sorted-other s few a c (d′ .kept) cr (d′ .sorted)
             (sorted-kept s (kept-set (s .tallies) (s .lists) w w (s .tallies + c) 0 (kept-refl (s .tallies) (s .lists) w) (omega arith) (omega arith)) (omega arith) o);
         turn = λ w₀ g₀ h av l o.
             offering-new g₀ h av o l c (first-owner c i g₀ (o .kept) ec) f cr (at w (s .tallies + c)) (at w (s .tallies + a)) refl nz refl w₁ w₂ refl d′;
@@ -502,23 +523,23 @@ module _ {w₀ w : List ℕ} {s : SwapRoom} (g : Given w₀ s) (k : Kept (s .tal
       : (v : ℕ) (w′ : List ℕ)
       → Listed w w′ s v
       → ((a b : ℕ) → a < s .limits .ranks → b < s .limits .ranks → (a ≡ b → ⊥)
-      → listAt w s a b ≡ listedTo 8 (rowsAt w₀ (s .level)) (ownersAt w₀ (s .level)) a b v)
+      → listAt w s a b ≡ listedTo (s .«list_length») (rowsAt w₀ (s .level)) (ownersAt w₀ (s .level)) a b v)
       → (a b : ℕ)
       → a < s .limits .ranks
       → b < s .limits .ranks
       → (a ≡ b → ⊥)
-      → listAt w′ s a b ≡ listedTo 8 (rowsAt w₀ (s .level)) (ownersAt w₀ (s .level)) a b (v + 1)
+      → listAt w′ s a b ≡ listedTo (s .«list_length») (rowsAt w₀ (s .level)) (ownersAt w₀ (s .level)) a b (v + 1)
   listed-turn v w′ d f a b p q n =
       d .lists a b p q n
       ∙ rw (rows-same g k used-below, owners-same g k used-below, f a b p q n)
-      (sym (listed-more 8 (rowsAt w₀ (s .level)) (ownersAt w₀ (s .level)) a b v))
+      (sym (listed-more (s .«list_length») (rowsAt w₀ (s .level)) (ownersAt w₀ (s .level)) a b v))
 
   pub listed-end
       : ((a b : ℕ) → a < s .limits .ranks → b < s .limits .ranks → (a ≡ b → ⊥)
-      → listAt w s a b ≡ listedTo 8 (rowsAt w₀ (s .level)) (ownersAt w₀ (s .level)) a b (s .level .vertices))
+      → listAt w s a b ≡ listedTo (s .«list_length») (rowsAt w₀ (s .level)) (ownersAt w₀ (s .level)) a b (s .level .vertices))
       → Holding w s (ownersAt w₀ (s .level))
   listed-end f a b p q n =
       f a b p q n
-      ∙ ap (listedTo 8 (rowsAt w₀ (s .level)) (ownersAt w₀ (s .level)) a b) (sym (all-vertices (g .ready)))
-      ∙ listed-all 8 (rowsAt w₀ (s .level)) (ownersAt w₀ (s .level)) a b
-      ∙ ap (λ (z : List (List ℕ)). candidates 8 z (ownersAt w₀ (s .level)) a b) (sym (rows-same g k used-below))
+      ∙ ap (listedTo (s .«list_length») (rowsAt w₀ (s .level)) (ownersAt w₀ (s .level)) a b) (sym (all-vertices (g .ready)))
+      ∙ listed-all (rowsAt w₀ (s .level)) (rows-few g) (rows-short g) (s .«list_length») (ownersAt w₀ (s .level)) a b
+      ∙ ap (λ (z : List (List ℕ)). map keyOf (candidates (s .«list_length») z (ownersAt w₀ (s .level)) a b)) (sym (rows-same g k used-below))

@@ -9,12 +9,12 @@ use lib.ListN.{length, set, replicate, length-set, length-replicate, getD-replic
 use lib.Seq.{getD-set-other}
 use lib.Dec.{ltb, eqb}
 use borrow.Author.Tests.{ne-eqb, eqb-true, ltb-false}
-use Rattle.links.specs.Lists.{at, unassigned, any, foldl, sum, All}
+use Rattle.links.specs.Lists.{at, between, unassigned, any, foldl, sum, All}
 use Rattle.links.specs.Loads.{Balance}
 use Rattle.links.specs.Graph.{load, owned}
 use Rattle.stages.specs.Growth.{Choice, passes, claims, restarts, Turn, afterChoice, afterTurn, seedOwners, weightedMultisource, grown}
 use Rattle.stages.specs.Moves.{Step, move, swap, after}
-use Rattle.stages.specs.Swaps.{between, inBalance, keepsBalance}
+use Rattle.stages.specs.Swaps.{inBalance, keepsBalance}
 use Rattle.links.proofs.ListLaws.{split, eqb-sym, tally, count-cons, any-none}
 use Rattle.stages.proofs.CutLaws.{swap-ranks}
 use Rattle.stages.proofs.StepLaws.{Along, length-after, Swapped, Moved}

@@ -200,6 +200,8 @@ given-after a e g k h f = record {
   loads-in = g .loads-in;
   tallies-in = g .tallies-in;
   lists-in = rw (k .same-length) (g .lists-in);
+  some-listed = g .some-listed;
+  few-listed = g .few-listed;
   few-ranks = g .few-ranks;
   ranked = f;
 }

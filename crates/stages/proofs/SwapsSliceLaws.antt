@@ -11,7 +11,7 @@ use Rattle.links.specs.Lists.{at}
 use Rattle.links.specs.Parts.{part}
 use Rattle.links.specs.Graph.{row, strictlyRising}
 use Rattle.links.proofs.PartLaws.{part-part}
-use Rattle.links.proofs.RowLaws.{length-row, row-below}
+use Rattle.links.proofs.RowLaws.{length-row, row-below, rises-few}
 use Rattle.stages.specs.Level.{offsetsAt, neighborsAt, rowsAt, weightsAt, ownersAt, Ready, balanceIn}
 use Rattle.stages.specs.Moves.{swap, gain}
 use Rattle.stages.specs.Swaps.{keepsBalance, applies}
@@ -75,8 +75,20 @@ module _ {w : List ℕ} {s : SwapRoom} (g : Given w s) where
           length-owners (g .ready),
         )
 
+    -- a strictly rising row of numbers below n has at most n of them
+    pub row-short : length (row (rowsAt w (s .level)) v) ≤ 16384
+    row-short =
+        omega (arith, rises-few (row (rowsAt w (s .level)) v) row-sorted (s .level .vertices) (λ i k. omega (arith, row-under i k, length-owners (g .ready))), g .ready .few)
+
     pub owner-is : at (ownersAt w (s .level)) v ≡ at w (s .level .owners + v)
     owner-is = owner-place (g .ready) v h
+
+  -- the same of all rows
+  pub rows-few : length (rowsAt w (s .level)) ≤ 16384
+  rows-few = omega (arith, vertices-are, g .ready .few)
+
+  pub rows-short : (v : ℕ) → v < length (rowsAt w (s .level)) → length (row (rowsAt w (s .level)) v) ≤ 16384
+  rows-short v h = row-short v (rw vertices-are at h)
 
 -- the five tests of a swap, as the code makes them
 pub applies-is

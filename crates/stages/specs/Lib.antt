@@ -5,6 +5,7 @@ pub mod Seeds
 pub mod Growth
 pub mod Moves
 pub mod Swaps
+pub mod Keys
 pub mod Slots
 pub mod SwapsCode
 pub mod CoarsenCode

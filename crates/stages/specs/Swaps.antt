@@ -3,8 +3,8 @@ use Prim.Native.Nat.{ℕ, suc, _+_, _-_, _*_}
 use mathlib.Core.Bool.{Bool, not, _&&_, cond}
 use mathlib.Core.List.{List, [], _∷_, map}
 use lib.ListN.{take}
-use lib.Dec.{leb, ltb, eqb}
-use Rattle.links.specs.Lists.{at, filter, sortBy, concatMap, range, elem, above}
+use lib.Dec.{ltb, eqb}
+use Rattle.links.specs.Lists.{at, filter, sortBy, concatMap, range, elem, above, between}
 use Rattle.links.specs.Loads.{Balance}
 use Rattle.links.specs.Graph.{vertices, linksTo, load}
 use Rattle.stages.specs.Moves.{Step, swap, gain, linked, after, Steps, repeat}
@@ -19,7 +19,7 @@ pub record Candidate : Type 0 where
 unfoldable pub ahead : Candidate → Candidate → Bool
 ahead x y = above (x .there + y .home) (y .there + x .home) (ltb (x .vertex) (y .vertex))
 
--- "for each ordered crew pair, members of the first with a neighbour in the second; .. first 8": the 8 is listLength
+-- "for each ordered crew pair, members of the first with a neighbour in the second; .. first 8": the 8 is listLength, an option
 unfoldable pub candidates : ℕ → List (List ℕ) → List ℕ → ℕ → ℕ → List Candidate
 candidates listLength rows owners a b =
     take listLength
@@ -57,12 +57,8 @@ unfoldable pub allProposals : ℕ → List (List ℕ) → ℕ → List ℕ → L
 allProposals listLength rows k owners =
     concatMap (λ a. concatMap (proposals listLength rows owners a) (range (suc a) (k - suc a))) (range 0 k)
 
--- a load "from floor to cap"
-abbrev pub between : ℕ → ℕ → ℕ → Bool
-between floor cap load = leb floor load && leb load cap
-
 module _ (b : Balance) (rows : List (List ℕ)) (weights : List ℕ) where
-  -- a rank's load is so
+  -- a rank's load is "from floor to cap"
   unfoldable pub inBalance : List ℕ → ℕ → Bool
   inBalance owners r = between (b .floor) (b .cap) (load weights owners r)
 

@@ -9,10 +9,15 @@ ghost use Rattle.links.specs.Parts.{part};
 ghost use Rattle.links.specs.Graph.{row, linksIn, linksTo, load};
 ghost use Rattle.stages.specs.Level.{offsetsAt, neighborsAt, rowsAt, weightsAt, ownersAt, balanceIn};
 ghost use Rattle.stages.specs.Moves.{linked, gain, swap};
-ghost use Rattle.stages.specs.Swaps.{ahead, between, applies, proposals, allProposals};
-ghost use Rattle.stages.specs.Slots.{candidate, proposal, slots, Sorted};
+ghost use Rattle.stages.specs.Swaps.{applies, proposals, allProposals};
+ghost use Rattle.stages.specs.Keys.{filled, Falling};
+ghost use Rattle.stages.specs.Slots.{proposal, slots};
 ghost use Rattle.stages.specs.MovesCode.{Clear, Tallied};
-ghost use Rattle.stages.specs.SwapsCode.{listPlace, fairTrade, Given, AllSorted, bordering, Offered, OfferedEntry, Offering, Listed, Empty, ListedAll, Standing, Marked, candidateOf, Fair, Named, proposed, changed, traded, Tradable, Swapped, Holding, Facing, Taken, rankProposals, passFrom, Stepped, swapsAt, Swappable, RefinedBySwaps};
+ghost use Rattle.stages.specs.SwapsCode.{listPlace, fairTrade, Given, AllSorted, FewTallied, bordering, Offered, OfferedEntry, Offering, Listed, Empty, ListedAll, Standing, Marked, Within, Named, proposed, changed, traded, Tradable, Swapped, Holding, Facing, Taken, rankProposals, passFrom, Stepped, swappingIn, swapsAt, Swappable, RefinedBySwaps};
+use crate::keys::gain_of;
+use crate::keys::key_of;
+use crate::keys::offer;
+use crate::keys::vertex_of;
 use crate::level::HierarchyLevel;
 use crate::level::Limits;
 use crate::moves::clear;
@@ -22,16 +27,17 @@ use crate::moves::row_start;
 use crate::moves::tally;
 use crate::moves::weigh;
 use crate::moves::weight_in;
-use crate::slots::Member;
 use crate::slots::add;
-use crate::slots::member_at;
-use crate::slots::offer;
+use links::between;
 use links::holds;
 use links::index;
 use links::wide;
 
+// What the gains of two candidates that gain nothing add up to.
+const NO_GAIN: u32 = 32768;
+
 // What the swaps work on: the level and the limits; a used flag for each vertex; a load and a tally for each rank; for each ordered
-// rank pair 8 candidates of three numbers.
+// rank pair a list of so many candidates, in 12 numbers.
 pub struct SwapRoom {
     pub level: HierarchyLevel,
     pub limits: Limits,
@@ -39,6 +45,13 @@ pub struct SwapRoom {
     pub loads: usize,
     pub tallies: usize,
     pub lists: usize,
+    pub list_length: usize,
+}
+
+// What the swaps go by: how many candidates a list has, and the most passes.
+pub struct Swapping {
+    pub list_length: usize,
+    pub passes: u64,
 }
 
 // ---- rows
@@ -66,24 +79,24 @@ fn linked(w: &[u32], s: SwapRoom, u: usize, v: usize) -> u32
 
 // Where the list of ranks a and b begins.
 fn list_at(s: SwapRoom, a: usize, b: usize) -> usize
-    requires { ⌜ (a < s .limits .ranks) × (b < s .limits .ranks) × (s .lists + 24 * (s .limits .ranks * s .limits .ranks) < 2 ^ 64) ⌝ }
-    ensures { λ r. ⌜ (r ≡ listPlace s a b) × (r + 24 ≤ s .lists + 24 * (s .limits .ranks * s .limits .ranks)) ⌝ }
+    requires { ⌜ (a < s .limits .ranks) × (b < s .limits .ranks) × (s .lists + 12 * (s .limits .ranks * s .limits .ranks) < 2 ^ 64) ⌝ }
+    ensures { λ r. ⌜ (r ≡ listPlace s a b) × (r + 12 ≤ s .lists + 12 * (s .limits .ranks * s .limits .ranks)) ⌝ }
 {
-    s.lists + 24 * (a * s.limits.ranks + b)
+    s.lists + 12 * (a * s.limits.ranks + b)
 }
 
-// A candidate is offered to the list that begins at a.
-fn offer_part(work: &mut [u32], a: usize, there: u32, home: u32, v: u32)
-    requires { ⌜ (a + 24 ≤ length (now work)) × (0 < there) × Sorted candidate ahead 8 (part (now work) a (a + 24)) ⌝ }
-    ensures { λ _. ⌜ Offered (now (work .entry)) (now (work .exit)) a (candidate there home v) ⌝ }
+// A candidate is offered to the list of n that begins at a.
+fn offer_part(work: &mut [u32], a: usize, n: usize, x: u32)
+    requires { ⌜ (a + n ≤ length (now work)) × (0 < n) × (0 < x) × Falling (part (now work) a (a + n)) ⌝ }
+    ensures { λ _. ⌜ Offered (now (work .entry)) (now (work .exit)) a n x ⌝ }
 {
-    offer(&mut work[a..a + 24], 8, there, home, v);
+    offer(&mut work[a..a + n], x);
 }
 
 // v, of rank a, is offered to the owner of the neighbor at entry i, once: its tally is then 0.
 fn offer_entry(work: &mut [u32], s: SwapRoom, a: usize, v: u32, i: usize)
     requires { ⌜ Given (now work) s × (a < s .limits .ranks) × (i < s .level .entries) × (at (neighborsAt (now work) (s .level)) i < s .level .vertices)
-        × AllSorted (now work) s ⌝ }
+        × AllSorted (now work) s × FewTallied (now work) s × (v < s .level .vertices) ⌝ }
     ensures { λ _. ⌜ OfferedEntry (now (work .entry)) (now (work .exit)) s a v i ⌝ }
 {
     let b = owner_at(&work[..], s.level, i);
@@ -97,7 +110,12 @@ fn offer_entry(work: &mut [u32], s: SwapRoom, a: usize, v: u32, i: usize)
     }
     let home = work[tallies + a];
     work[tallies + b] = 0;
-    offer_part(work, list_at(s, a, b), there, home, v);
+    offer_part(
+        work,
+        list_at(s, a, b),
+        s.list_length,
+        key_of(there, home, v),
+    );
 }
 
 // v, of rank a, is offered to each other rank among its neighbors' owners.
@@ -170,44 +188,34 @@ fn list_all(work: &mut [u32], s: SwapRoom)
 // ---- proposals
 
 // The product of two candidates joins the proposals. Whether they are linked is asked only where they gain without that.
-fn propose(list: &mut [u32], room: usize, w: &[u32], s: SwapRoom, x: Member, y: Member)
-    requires { ⌜ Given (now w) s × (length (now list) ≡ 3 * room) × Fair (s .level .vertices) (candidateOf x) × Fair (s .level .vertices) (candidateOf y) ⌝ }
+fn propose(list: &mut [u32], room: usize, w: &[u32], s: SwapRoom, x: u32, y: u32)
+    requires { ⌜ Given (now w) s × (length (now list) ≡ 3 * room) × Within (s .level .vertices) x × Within (s .level .vertices) y ⌝ }
     ensures { λ _. ⌜ slots proposal room (now (list .exit))
-        ≡ proposed room (rowsAt (now (w .entry)) (s .level)) (candidateOf x) (slots proposal room (now (list .entry))) (candidateOf y) ⌝ }
+        ≡ proposed room (rowsAt (now (w .entry)) (s .level)) x (slots proposal room (now (list .entry))) y ⌝ }
 {
-    let u = x.vertex;
-    let v = y.vertex;
-    let there = x.there + y.there;
-    let apart = x.home + y.home;
-    if there <= apart {
+    let gains = gain_of(x) + gain_of(y);
+    if gains <= NO_GAIN {
         return;
     }
-    let home = apart + 2 * linked(w, s, index(u), index(v));
-    if home < there {
-        add(list, room, there - home, u, v);
+    let u = vertex_of(x);
+    let v = vertex_of(y);
+    let none = NO_GAIN + 2 * linked(w, s, index(u), index(v));
+    if none < gains {
+        add(list, room, gains - none, u, v);
     }
 }
 
-// The products of one candidate and a list of n slots.
-fn propose_row(
-    list: &mut [u32],
-    room: usize,
-    w: &[u32],
-    s: SwapRoom,
-    x: Member,
-    back: &[u32],
-    n: usize,
-)
-    requires { ⌜ Given (now w) s × (length (now list) ≡ 3 * room) × Fair (s .level .vertices) (candidateOf x)
-        × (length (now back) ≡ 3 * n) × All (Fair (s .level .vertices)) (slots candidate n (now back)) ⌝ }
+// The products of one candidate and a list.
+fn propose_row(list: &mut [u32], room: usize, w: &[u32], s: SwapRoom, x: u32, back: &[u32])
+    requires { ⌜ Given (now w) s × (length (now list) ≡ 3 * room) × Within (s .level .vertices) x
+        × All (Within (s .level .vertices)) (filled (now back)) ⌝ }
     ensures { λ _. ⌜ slots proposal room (now (list .exit))
-        ≡ foldl (proposed room (rowsAt (now (w .entry)) (s .level)) (candidateOf x)) (slots proposal room (now (list .entry)))
-        (slots candidate n (now (back .entry))) ⌝ }
+        ≡ foldl (proposed room (rowsAt (now (w .entry)) (s .level)) x) (slots proposal room (now (list .entry))) (filled (now (back .entry))) ⌝ }
 {
-    let mut j = 0;
-    while j < n {
-        let y = member_at(back, j);
-        if y.there == 0 {
+    let mut j: usize = 0;
+    while j < back.len() {
+        let y = back[j];
+        if y == 0 {
             return;
         }
         propose(list, room, w, s, x, y);
@@ -215,30 +223,21 @@ fn propose_row(
     }
 }
 
-// All products of two lists of n slots.
-fn propose_all(
-    list: &mut [u32],
-    room: usize,
-    w: &[u32],
-    s: SwapRoom,
-    fore: &[u32],
-    back: &[u32],
-    n: usize,
-)
+// All products of two lists.
+fn propose_all(list: &mut [u32], room: usize, w: &[u32], s: SwapRoom, fore: &[u32], back: &[u32])
     requires { ⌜ Given (now w) s × (length (now list) ≡ 3 * room)
-        × (length (now fore) ≡ 3 * n) × All (Fair (s .level .vertices)) (slots candidate n (now fore))
-        × (length (now back) ≡ 3 * n) × All (Fair (s .level .vertices)) (slots candidate n (now back)) ⌝ }
+        × All (Within (s .level .vertices)) (filled (now fore)) × All (Within (s .level .vertices)) (filled (now back)) ⌝ }
     ensures { λ _. ⌜ slots proposal room (now (list .exit))
-        ≡ foldl (λ ps x. foldl (proposed room (rowsAt (now (w .entry)) (s .level)) x) ps (slots candidate n (now (back .entry))))
-        (slots proposal room (now (list .entry))) (slots candidate n (now (fore .entry))) ⌝ }
+        ≡ foldl (λ ps x. foldl (proposed room (rowsAt (now (w .entry)) (s .level)) x) ps (filled (now (back .entry))))
+        (slots proposal room (now (list .entry))) (filled (now (fore .entry))) ⌝ }
 {
-    let mut i = 0;
-    while i < n {
-        let x = member_at(fore, i);
-        if x.there == 0 {
+    let mut i: usize = 0;
+    while i < fore.len() {
+        let x = fore[i];
+        if x == 0 {
             return;
         }
-        propose_row(list, room, w, s, x, back, n);
+        propose_row(list, room, w, s, x, back);
         i += 1;
     }
 }
@@ -293,23 +292,13 @@ fn swap_gain(w: &[u32], s: SwapRoom, u: usize, v: usize) -> u32
     less(x + y, home)
 }
 
-// Whether a load is from floor to cap.
-fn in_balance(limits: Limits, load: u64) -> bool
-    ensures { λ b. ⌜ b ≡ between (limits .floor) (limits .cap) load ⌝ }
-{
-    if load < limits.floor {
-        return false;
-    }
-    load <= limits.cap
-}
-
 // Whether a load is from floor to cap, and still is once it gives x for y.
 fn fair_trade(limits: Limits, load: u32, x: u32, y: u32) -> bool
     requires { ⌜ x ≤ load ⌝ }
     ensures { λ b. ⌜ b ≡ fairTrade (limits .floor) (limits .cap) load x y ⌝ }
 {
-    if in_balance(limits, wide(load)) {
-        return in_balance(limits, wide(load - x) + wide(y));
+    if between(limits.floor, limits.cap, wide(load)) {
+        return between(limits.floor, limits.cap, wide(load - x) + wide(y));
     }
     false
 }
@@ -421,23 +410,44 @@ fn take_all(work: &mut [u32], s: SwapRoom, list: &[u32], n: usize) -> u32
 
 // ---- a pass
 
+// How many products two lists of n can have.
+fn product_count(n: usize) -> usize
+    requires { ⌜ n ≤ 12 ⌝ }
+    ensures { λ r. ⌜ (r ≤ 144) × (r ≡ n * n) ⌝ }
+{
+    n * n
+}
+
+// The swaps of two ranks, whose lists begin at x and at y, by way of room for their proposals, where there is none yet.
+fn swap_proposed(work: &mut [u32], s: SwapRoom, x: usize, y: usize, list: &mut [u32]) -> u32
+    requires { ⌜ Standing (now work) s × ((owners : List ℕ) × (a : ℕ) × (b : ℕ) × Facing (now work) s x y owners a b)
+        × (length (now list) ≡ 3 * (s .«list_length» * s .«list_length»)) × (at (now list) 0 ≡ 0) ⌝ }
+    ensures { λ r. ⌜ (r ≤ 144) × ((owners : List ℕ) (a b : ℕ) → Facing (now (work .entry)) s x y owners a b
+        → Taken (now (work .entry)) (now (work .exit)) s r (proposals (s .«list_length») (rowsAt (now (work .entry)) (s .level)) owners a b)) ⌝ }
+{
+    let n = s.list_length;
+    let room = product_count(n);
+    let w = &work[..];
+    propose_all(list, room, w, s, &w[x..x + n], &w[y..y + n]);
+    take_all(work, s, &list[..], room)
+}
+
 // The swaps of two ranks, whose lists begin at x and at y.
 fn swap_listed(work: &mut [u32], s: SwapRoom, x: usize, y: usize) -> u32
     requires { ⌜ Standing (now work) s × ((owners : List ℕ) × (a : ℕ) × (b : ℕ) × Facing (now work) s x y owners a b) ⌝ }
-    ensures { λ r. ⌜ (r ≤ 64) × ((owners : List ℕ) (a b : ℕ) → Facing (now (work .entry)) s x y owners a b
-        → Taken (now (work .entry)) (now (work .exit)) s r (proposals 8 (rowsAt (now (work .entry)) (s .level)) owners a b)) ⌝ }
+    ensures { λ r. ⌜ (r ≤ 144) × ((owners : List ℕ) (a b : ℕ) → Facing (now (work .entry)) s x y owners a b
+        → Taken (now (work .entry)) (now (work .exit)) s r (proposals (s .«list_length») (rowsAt (now (work .entry)) (s .level)) owners a b)) ⌝ }
 {
-    let mut list = [0u32; 192];
-    let w = &work[..];
-    propose_all(&mut list[..], 64, w, s, &w[x..x + 24], &w[y..y + 24], 8);
-    take_all(work, s, &list[..], 64)
+    let mut list = [0u32; 432];
+    let end = 3 * product_count(s.list_length);
+    swap_proposed(work, s, x, y, &mut list[0..end])
 }
 
 // The swaps of ranks a and b.
 fn swap_pair(work: &mut [u32], s: SwapRoom, a: usize, b: usize) -> u32
     requires { ⌜ Standing (now work) s × (a < s .limits .ranks) × (b < s .limits .ranks) × (a < b) × ((owners : List ℕ) × Holding (now work) s owners) ⌝ }
-    ensures { λ r. ⌜ (r ≤ 64) × ((owners : List ℕ) → Holding (now (work .entry)) s owners
-        → Taken (now (work .entry)) (now (work .exit)) s r (proposals 8 (rowsAt (now (work .entry)) (s .level)) owners a b)) ⌝ }
+    ensures { λ r. ⌜ (r ≤ 144) × ((owners : List ℕ) → Holding (now (work .entry)) s owners
+        → Taken (now (work .entry)) (now (work .exit)) s r (proposals (s .«list_length») (rowsAt (now (work .entry)) (s .level)) owners a b)) ⌝ }
 {
     let x = list_at(s, a, b);
     let y = list_at(s, b, a);
@@ -453,8 +463,8 @@ fn swap_pair(work: &mut [u32], s: SwapRoom, a: usize, b: usize) -> u32
 // The swaps of rank a and each later one.
 fn swap_rank(work: &mut [u32], s: SwapRoom, a: usize) -> u32
     requires { ⌜ Standing (now work) s × (a < s .limits .ranks) × ((owners : List ℕ) × Holding (now work) s owners) ⌝ }
-    ensures { λ r. ⌜ (r ≤ 16384) × ((owners : List ℕ) → Holding (now (work .entry)) s owners
-        → Taken (now (work .entry)) (now (work .exit)) s r (rankProposals (rowsAt (now (work .entry)) (s .level)) owners a (s .limits .ranks))) ⌝ }
+    ensures { λ r. ⌜ (r ≤ 36864) × ((owners : List ℕ) → Holding (now (work .entry)) s owners
+        → Taken (now (work .entry)) (now (work .exit)) s r (rankProposals (s .«list_length») (rowsAt (now (work .entry)) (s .level)) owners a (s .limits .ranks))) ⌝ }
 {
     let mut done: u32 = 0;
     let mut b = a + 1;
@@ -468,8 +478,8 @@ fn swap_rank(work: &mut [u32], s: SwapRoom, a: usize) -> u32
 // The swaps of all ranks.
 fn swap_ranks(work: &mut [u32], s: SwapRoom) -> u32
     requires { ⌜ Standing (now work) s × ((owners : List ℕ) × Holding (now work) s owners) ⌝ }
-    ensures { λ r. ⌜ (r ≤ 4194304) × ((owners : List ℕ) → Holding (now (work .entry)) s owners
-        → Taken (now (work .entry)) (now (work .exit)) s r (allProposals 8 (rowsAt (now (work .entry)) (s .level)) (s .limits .ranks) owners)) ⌝ }
+    ensures { λ r. ⌜ (r ≤ 9437184) × ((owners : List ℕ) → Holding (now (work .entry)) s owners
+        → Taken (now (work .entry)) (now (work .exit)) s r (allProposals (s .«list_length») (rowsAt (now (work .entry)) (s .level)) (s .limits .ranks) owners)) ⌝ }
 {
     let mut done: u32 = 0;
     let mut a = 0;
@@ -487,7 +497,7 @@ fn swap_pass(work: &mut [u32], s: SwapRoom) -> u32
 {
     let ranks = s.limits.ranks;
     clear(work, s.used, s.level.vertices);
-    clear(work, s.lists, 24 * (ranks * ranks));
+    clear(work, s.lists, 12 * (ranks * ranks));
     list_all(work, s);
     swap_ranks(work, s)
 }
@@ -495,7 +505,7 @@ fn swap_pass(work: &mut [u32], s: SwapRoom) -> u32
 // Up to so many passes, ending after one without a swap: the number of swaps.
 fn swap_passes(work: &mut [u32], s: SwapRoom, passes: u64) -> u64
     requires { ⌜ Standing (now work) s × Clear (now work) (s .tallies) (s .limits .ranks) ⌝ }
-    ensures { λ r. ⌜ Stepped (now (work .entry)) (now (work .exit)) s (swapsAt (now (work .entry)) (s .level) (s .limits) passes) r ⌝ }
+    ensures { λ r. ⌜ Stepped (now (work .entry)) (now (work .exit)) s (swapsAt (now (work .entry)) (s .level) (s .limits) (swappingIn s passes)) r ⌝ }
 {
     let mut total: u64 = 0;
     let mut p: u64 = 0;
@@ -510,20 +520,20 @@ fn swap_passes(work: &mut [u32], s: SwapRoom, passes: u64) -> u64
     total
 }
 
-// Rule 7: swaps on a level's owners, and their number. It uses a number for each vertex and two for each rank from scratch on, and 24 for each
+// Rule 7: swaps on a level's owners, and their number. It uses a number for each vertex and two for each rank from scratch on, and 12 for each
 // ordered rank pair from lists on.
 // Rules out: a swap that is not made, or of other vertices; a swap from gains that do not hold any more; a vertex that is swapped twice in a
-// pass; a pass after one without a swap.
+// pass; a pass after one without a swap; a candidate more in a list, or one left out.
 pub fn refine_fine_pair_swaps(
     work: &mut [u32],
     l: HierarchyLevel,
     scratch: usize,
     lists: usize,
     limits: Limits,
-    passes: u64,
+    swapping: Swapping,
 ) -> u64
-    requires { ⌜ Swappable (now work) l scratch lists (limits .ranks) ⌝ }
-    ensures { λ r. ⌜ RefinedBySwaps (now (work .entry)) (now (work .exit)) l scratch limits passes r ⌝ }
+    requires { ⌜ Swappable (now work) l scratch lists (limits .ranks) (swapping .«list_length») ⌝ }
+    ensures { λ r. ⌜ RefinedBySwaps (now (work .entry)) (now (work .exit)) l scratch limits swapping r ⌝ }
 {
     let n = l.vertices;
     let ranks = limits.ranks;
@@ -534,8 +544,9 @@ pub fn refine_fine_pair_swaps(
         loads: scratch + n,
         tallies: scratch + n + ranks,
         lists,
+        list_length: swapping.list_length,
     };
     clear(work, scratch + n, 2 * ranks);
     weigh(work, l, scratch + n, ranks);
-    swap_passes(work, s, passes)
+    swap_passes(work, s, swapping.passes)
 }

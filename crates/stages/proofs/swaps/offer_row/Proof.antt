@@ -9,7 +9,7 @@ use Rattle.stages.specs.Level.{offsetsAt}
 use Rattle.stages.specs.SwapsCode.{Offering, AllSorted}
 use Rattle.stages.proofs.LevelLaws.{neighbors-kept, row-rises, row-ends, entry-below, beneath}
 use Rattle.stages.proofs.SwapsSliceLaws.{whole}
-use Rattle.stages.proofs.ListingLaws.{given-kept, offering-start}
+use Rattle.stages.proofs.ListingLaws.{given-kept, offering-start, offering-few}
 use Rattle.stages.proofs.swaps.offer_row.Statement.{statement}
 use Rattle.stages.proofs.swaps.offer_row.Tie as tie
 
@@ -26,12 +26,15 @@ row-start-requires : tie.Need-row-start-requires Inv-loop μ-loop
 row-start-requires c κs = (whole (c .before .before .pre .0), omega arith)
 
 row-start-requires-2 : tie.Need-row-start-requires-2 Inv-loop μ-loop
-row-start-requires-2 c κs = (whole (c .before .before .before .before .pre .0), omega arith)
+row-start-requires-2 c κs =
+    let c4 = c .before .before .before .before in
+    (whole (c4 .pre .0), omega arith)
 
 loop-holds : tie.Need-loop-holds Inv-loop μ-loop
 loop-holds c =
-    let a = c .before .before .before .before .before .args in
-    let p = c .before .before .before .before .before .pre in (
+    let c5 = c .before .before .before .before .before in
+    let a = c5 .args in
+    let p = c5 .pre in (
       omega arith,
       omega (arith, row-rises (p .0 .ready) (a .v) (p .1), c .row-start2 .ensures, c .before .before .row-start .ensures),
       refl,
@@ -58,6 +61,8 @@ offer-entry-requires c κs =
       rw (neighbors-kept (p .0 .ready) k (beneath (p .0 .ready) (omega (arith, p .0 .used-in, p .0 .loads-in, p .0 .ready .laid .owners-in))))
           (entry-below (p .0 .ready) (a .v) (p .1) (l .i) (omega (arith, c3 .row-start2 .ensures)) (omega (arith, c5 .row-start .ensures))),
       l .inv .4,
+      offering-few (p .0) (p .1) (p .2) (l .inv .3),
+      p .1,
     )
 
 add-i : tie.Need-add-i Inv-loop μ-loop
@@ -68,10 +73,13 @@ loop-less c = omega arith
 
 loop-again : tie.Need-loop-again Inv-loop μ-loop
 loop-again c =
-    let a = c .before .before .before .before .before .before .before .before .before .before .before .args in
-    let p = c .before .before .before .before .before .before .before .before .before .before .before .pre in
-    let l = c .before .before .before .before .before .loop in
-    let e = c .before .before .before .before .before .before .before .before .row-start .ensures in
+    let c5 = c .before .before .before .before .before in
+    let c8 = c5 .before .before .before in
+    let c11 = c8 .before .before .before in
+    let a = c11 .args in
+    let p = c11 .pre in
+    let l = c5 .loop in
+    let e = c8 .row-start .ensures in
     let o : Offering (a .work .now) (l .work) (a .s) (a .a) (a .v) (l .i) (at (offsetsAt (a .work .now) (a .s .level)) (a .v + 1)) = rw e at (l .inv .3) in (
       omega arith,
       omega arith,
@@ -85,10 +93,12 @@ same-length c = c .before .loop .inv .2
 
 returns : tie.Need-returns Inv-loop μ-loop
 returns c =
-    let a = c .before .before .before .before .before .before .before .args in
+    let c4 = c .before .before .before .before in
+    let c7 = c4 .before .before .before in
+    let a = c7 .args in
     let l = c .before .loop in
-    let e = c .before .before .before .before .row-start .ensures in
-    let i : l .i ≡ c .before .before .before .before .row-start .result = omega arith in
+    let e = c4 .row-start .ensures in
+    let i : l .i ≡ c4 .row-start .result = omega arith in
     (subst (λ (z : ℕ). Offering (a .work .now) (l .work) (a .s) (a .a) (a .v) z z) e (rw i at (l .inv .3)), l .inv .4)
 
 pub offer-row-spec : {M : Type 1} → statement M

@@ -1,71 +1,66 @@
--- The invariant: what the slots from i on make of the proposals so far is what all make of the first ones. Assumes nothing.
+-- The invariant: what the places from i on make of the proposals so far is what all make of the first ones. Assumes nothing.
 use Prim.Native.Nat.{_-_, _*_, _≤_}
-use mathlib.Core.Path.{_≡_, sym, ap, _∙_, subst}
+use mathlib.Core.Path.{_≡_}
 use native.Mathlib.Omega.{arith}
 use lib.ListN.{length}
-use Rattle.links.specs.Lists.{at, foldl}
+use Rattle.links.specs.Lists.{foldl}
 use Rattle.stages.specs.Level.{rowsAt}
-use Rattle.stages.specs.Swaps.{Candidate}
-use Rattle.stages.specs.Slots.{candidate, proposal, slots}
-use Rattle.stages.specs.SwapsCode.{Fair, proposed}
-use Rattle.stages.proofs.SlotLaws.{Walk, walk-start, walk-end, walk-stop, walk-here, walk-turn}
+use Rattle.stages.specs.Keys.{filled}
+use Rattle.stages.specs.Slots.{proposal, slots}
+use Rattle.stages.specs.SwapsCode.{Within, proposed}
+use Rattle.stages.proofs.KeyLaws.{Walk, walk-start, walk-end, walk-stop, walk-here, walk-turn}
+use borrow.Author.Needs.{needs}
 use Rattle.stages.proofs.swaps.propose_all.Statement.{statement}
 use Rattle.stages.proofs.swaps.propose_all.Tie as tie
 
 abbrev Inv-loop : tie.InvT-loop
-Inv-loop list₀ room w s fore back n i₀ list i =
-    (i ≤ n)
+Inv-loop list₀ room w s fore back i₀ list i =
+    (i ≤ length fore)
     × (length list ≡ 3 * room)
-    × Walk candidate (λ ps x. foldl (proposed room (rowsAt w (s .level)) x) ps (slots candidate n back)) (Fair (s .level .vertices)) n fore (slots proposal room list₀) i (slots proposal room list)
+    × Walk (λ ps x. foldl (proposed room (rowsAt w (s .level)) x) ps (filled back)) (Within (s .level .vertices)) fore (slots proposal room list₀) i (slots proposal room list)
 
 abbrev μ-loop : tie.MeasureT-loop
-μ-loop list₀ room w s fore back n i₀ list i = n - i
+μ-loop list₀ room w s fore back i₀ list i = length fore - i
 
 loop-holds : tie.Need-loop-holds Inv-loop μ-loop
-loop-holds c = (omega arith, omega arith, walk-start (c .before .before .before .before .pre .3))
+loop-holds c =
+    let c4 = c .before .before .before .before in
+    (omega arith, omega arith, walk-start (c4 .pre .2))
 
-member-at-requires : tie.Need-member-at-requires Inv-loop μ-loop
-member-at-requires c κs = omega arith
+mul-x : tie.Need-mul-x Inv-loop μ-loop
+mul-x c = search needs
+
+shared-slice-read-x : tie.Need-shared-slice-read-x Inv-loop μ-loop
+shared-slice-read-x c = search needs
 
 same-length : tie.Need-same-length Inv-loop μ-loop
 same-length c = omega arith
 
 returns : tie.Need-returns Inv-loop μ-loop
-returns c = walk-stop (c .before .before .before .before .loop .inv .2) (omega arith) (sym (ap (λ (z : Candidate). z .there) (c .before .before .member-at .ensures)) ∙ c .if1 .taken)
+returns c =
+    let c3 = c .before .before .before in
+    walk-stop (c3 .loop .inv .2) (c .if1 .taken)
 
 propose-row-requires : tie.Need-propose-row-requires Inv-loop μ-loop
 propose-row-requires c κs =
-    let c3 = c .before .before .before in
-    let c5 = c3 .before .before in
-    let c10 = c5 .before .before .before .before .before in
-    let d : at (c10 .args .fore .now) (3 * c5 .loop .i) ≡ 0 → ⊥ = λ q. c .before .if1 .left (ap (λ (z : Candidate). z .there) (c3 .member-at .ensures) ∙ q) in (
-      c10 .pre .0,
-      c5 .loop .inv .1,
-      subst (Fair (c10 .args .s .level .vertices)) (sym (c3 .member-at .ensures)) (walk-here (c5 .loop .inv .2) (omega arith) d),
-      c10 .pre .4,
-      c10 .pre .5,
-    )
+    let c4 = c .before .before .before .before in
+    let c9 = c4 .before .before .before .before .before in
+    (c9 .pre .0, c4 .loop .inv .1, walk-here (c4 .loop .inv .2) (omega arith) (c .before .if1 .left), c9 .pre .3)
 
 add-i : tie.Need-add-i Inv-loop μ-loop
-add-i c = omega arith
+add-i c = search needs
 
 loop-less : tie.Need-loop-less Inv-loop μ-loop
-loop-less c = omega arith
+loop-less c = search needs
 
 loop-again : tie.Need-loop-again Inv-loop μ-loop
 loop-again c =
     let c4 = c .before .before .before .before in
-    let c6 = c4 .before .before in
-    let c8 = c6 .before .before in
-    let c13 = c8 .before .before .before .before .before in
-    let a = c13 .args in
-    let l = c8 .loop in
-    let d : at (a .fore .now) (3 * l .i) ≡ 0 → ⊥ = λ q. c4 .if1 .left (ap (λ (z : Candidate). z .there) (c6 .member-at .ensures) ∙ q) in (
+    let c7 = c4 .before .before .before in
+    let c12 = c7 .before .before .before .before .before in (
       omega arith,
       omega (arith, c .before .before .propose-row .kept),
-      walk-turn (l .inv .2) (omega arith) d (slots proposal (a .room) (c .before .before .propose-row .last .0))
-          (c .before .before .propose-row .ensures
-          ∙ ap (λ (x : Candidate). foldl (proposed (a .room) (rowsAt (a .w .now) (a .s .level)) x) (slots proposal (a .room) (l .list)) (slots candidate (a .n) (a .back .now))) (c6 .member-at .ensures)),
+      walk-turn (c7 .loop .inv .2) (omega arith) (c4 .if1 .left) (slots proposal (c12 .args .room) (c .before .before .propose-row .last .0)) (c .before .before .propose-row .ensures),
     )
 
 same-length-2 : tie.Need-same-length-2 Inv-loop μ-loop
@@ -81,7 +76,8 @@ propose-all-spec =
     Inv-loop
     μ-loop
     loop-holds
-    member-at-requires
+    mul-x
+    shared-slice-read-x
     same-length
     returns
     propose-row-requires

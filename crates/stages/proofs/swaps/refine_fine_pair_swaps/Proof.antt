@@ -8,6 +8,21 @@ use Rattle.stages.proofs.SwapPassLaws.{weighable, starts, starts-clear,
 use Rattle.stages.proofs.swaps.refine_fine_pair_swaps.Statement.{statement}
 use Rattle.stages.proofs.swaps.refine_fine_pair_swaps.Tie as tie
 
+-- what the passes work on
+abbrev room : tie.Start → SwapRoom
+room c =
+    let a = c .args in
+    let loads = a .scratch + a .l .vertices in
+    record {
+      level = a .l;
+      limits = a .limits;
+      used = a .scratch;
+      loads = loads;
+      tallies = loads + a .limits .ranks;
+      lists = a .lists;
+      «list_length» = a .swapping .«list_length»;
+    }
+
 add-clear : tie.Need-add-clear
 add-clear c = search needs
 
@@ -33,8 +48,7 @@ weigh-requires : tie.Need-weigh-requires
 weigh-requires c κs =
     let c3 = c .before .before .before in
     let c6 = c3 .before .before .before in
-    let a = c6 .args in
-    let s : SwapRoom = record { level = a .l; limits = a .limits; used = a .scratch; loads = a .scratch + a .l .vertices; tallies = a .scratch + a .l .vertices + a .limits .ranks; lists = a .lists } in
+    let s = room c6 in
     (weighable s (c6 .pre) refl refl (c3 .clear .ensures .1), λ i h. c3 .clear .ensures .0 i (omega arith))
 
 swap-passes-requires : tie.Need-swap-passes-requires
@@ -42,8 +56,7 @@ swap-passes-requires c κs =
     let c3 = c .before .before .before in
     let c7 = c3 .before .before .before .before in
     let c10 = c7 .before .before .before in
-    let a = c10 .args in
-    let s : SwapRoom = record { level = a .l; limits = a .limits; used = a .scratch; loads = a .scratch + a .l .vertices; tallies = a .scratch + a .l .vertices + a .limits .ranks; lists = a .lists } in
+    let s = room c10 in
     let x = c7 .clear .ensures in
     let y = c3 .weigh .ensures in
     (starts s (c10 .pre) refl refl (x .1) (x .0) (y .0) (y .1), starts-clear s (c10 .pre) refl refl (x .1) (x .0) (y .0) (y .1))
@@ -56,8 +69,7 @@ returns c =
     let c6 = c .before .before .before .before .before .before in
     let c10 = c6 .before .before .before .before in
     let c13 = c10 .before .before .before in
-    let a = c13 .args in
-    let s : SwapRoom = record { level = a .l; limits = a .limits; used = a .scratch; loads = a .scratch + a .l .vertices; tallies = a .scratch + a .l .vertices + a .limits .ranks; lists = a .lists } in
+    let s = room c13 in
     let x = c10 .clear .ensures in
     let y = c6 .weigh .ensures in
     refined s (c13 .pre) refl refl (x .1) (x .0) (y .0) (y .1) (c .before .before .swap-passes .ensures)

@@ -13,8 +13,8 @@ use Rattle.stages.proofs.swaps.swap_ranks.Tie as tie
 
 abbrev Inv-loop : tie.InvT-loop
 Inv-loop work₀ s done₀ a₀ work done a =
-    (a ≤ s .limits .ranks) × (done ≤ 16384 * a) × (length work ≡ length work₀)
-    × ((owners : List ℕ) → Holding work₀ s owners → Taken work₀ work s done (ranksProposals (rowsAt work₀ (s .level)) owners (s .limits .ranks) a))
+    (a ≤ s .limits .ranks) × (done ≤ 36864 * a) × (length work ≡ length work₀)
+    × ((owners : List ℕ) → Holding work₀ s owners → Taken work₀ work s done (ranksProposals (s .«list_length») (rowsAt work₀ (s .level)) owners (s .limits .ranks) a))
 
 abbrev μ-loop : tie.MeasureT-loop
 μ-loop work₀ s done₀ a₀ work done a = s .limits .ranks - a
@@ -24,13 +24,17 @@ loop-holds c = (omega arith, omega arith, refl, λ owners f. taken-none (c .befo
 
 swap-rank-requires : tie.Need-swap-rank-requires Inv-loop μ-loop
 swap-rank-requires c κs =
-    let l = c .before .before .before .loop in
-    let p = c .before .before .before .before .before .pre in
+    let c3 = c .before .before .before in
+    let c5 = c3 .before .before in
+    let l = c3 .loop in
+    let p = c5 .pre in
     let t = l .inv .3 (p .1 .0) (p .1 .1) in
     (t .standing, c .before .if1 .taken, (p .1 .0, holding-on (p .0 .given) t (p .1 .0) (p .1 .1)))
 
 add-done : tie.Need-add-done Inv-loop μ-loop
-add-done c = omega (arith, c .before .before .swap-rank .ensures .0, c .before .before .before .before .before .before .before .before .pre .0 .given .few-ranks)
+add-done c =
+    let c8 = c .before .before .before .before .before .before .before .before in
+    omega (arith, c .before .before .swap-rank .ensures .0, c8 .pre .0 .given .few-ranks)
 
 add-a : tie.Need-add-a Inv-loop μ-loop
 add-a c = omega arith
@@ -46,7 +50,7 @@ loop-again c =
     let l = c6 .loop in
     let p = c8 .pre in
     let x = c .before .before .swap-rank in
-    let next : (owners : List ℕ) → Holding (a .work .now) (a .s) owners → Taken (a .work .now) (x .last .0) (a .s) (l .done + x .result) (ranksProposals (rowsAt (a .work .now) (a .s .level)) owners (a .s .limits .ranks) (l .a + 1)) =
+    let next : (owners : List ℕ) → Holding (a .work .now) (a .s) owners → Taken (a .work .now) (x .last .0) (a .s) (l .done + x .result) (ranksProposals (a .s .«list_length») (rowsAt (a .work .now) (a .s .level)) owners (a .s .limits .ranks) (l .a + 1)) =
     λ owners f. rank-turn (p .0 .given) (l .inv .3 owners f) owners (l .a) refl (x .ensures .1 owners (holding-on (p .0 .given) (l .inv .3 owners f) owners f)) in
     (omega arith, omega (arith, x .ensures .0), next (p .1 .0) (p .1 .1) .kept .same-length, next)
 
@@ -55,12 +59,13 @@ same-length c = c .before .before .loop .inv .2
 
 returns : tie.Need-returns Inv-loop μ-loop
 returns c =
+    let c4 = c .before .before .before .before in
     let l = c .before .before .loop in
-    let s = c .before .before .before .before .args .s in
-    let w = c .before .before .before .before .args .work .now in
+    let s = c4 .args .s in
+    let w = c4 .args .work .now in
     let e : l .a ≡ s .limits .ranks = omega arith in (
-      omega (arith, c .before .before .before .before .pre .0 .given .few-ranks),
-      λ owners f. subst (Taken w (l .work) s (l .done)) (ranks-all (rowsAt w (s .level)) owners (s .limits .ranks)) (rw e at (l .inv .3 owners f)),
+      omega (arith, c4 .pre .0 .given .few-ranks),
+      λ owners f. subst (Taken w (l .work) s (l .done)) (ranks-all (s .«list_length») (rowsAt w (s .level)) owners (s .limits .ranks)) (rw e at (l .inv .3 owners f)),
     )
 
 pub swap-ranks-spec : {M : Type 1} → statement M
