@@ -1,7 +1,7 @@
 -- Laws of the causes tested before the work: what each test that passes leaves, and the first that holds. Assumes nothing.
 use Prim.Native.Nat.{ℕ, _+_, _*_, _≤_}
-use mathlib.Core.Path.{_≡_}
-use mathlib.Core.Bool.{Bool, true, false, _||_}
+use mathlib.Core.Path.{_≡_, sym, _∙_}
+use mathlib.Core.Bool.{Bool, false, _||_}
 use native.Mathlib.Omega.{arith}
 use native.Mathlib.Nat.{mul-le-mul}
 use lib.ListN.{length}
@@ -9,10 +9,10 @@ use lib.Dec.{ltb, eqb}
 use borrow.Author.Tests.{eqb-false, ltb-false}
 use Rattle.links.specs.Graph.{vertexCount, badLists}
 use Rattle.links.specs.Workloads.{badWorkloads}
-use Rattle.links.specs.Options.{badOptions, optionsCause}
+use Rattle.links.specs.Options.{badOptions, badSwaps, optionsCause}
 use Rattle.links.specs.declared.options.AbtmMultilevelOptions.{AbtmMultilevelOptions}
 use Rattle.multilevel.specs.Causes.{Call, badCounts, overLimits, workNeed, Limited, firstOf, tooShort, earlyCause}
-use Rattle.links.proofs.ListLaws.{or-l, or-r}
+use Rattle.links.proofs.ListLaws.{split, or-l, or-r}
 use Rattle.links.proofs.CauseLaws.{cause-holds, cause-fails}
 
 -- ---- what cause 1 and cause 3 leave
@@ -60,14 +60,12 @@ limited n m k levels e =
 
 -- ---- what the calls of links answer, as tests
 
-module _ (o : AbtmMultilevelOptions) (r : ℕ) (e : r ≡ optionsCause o) where
-  pub options-bad : (r ≡ 0 → ⊥) → badOptions o ≡ true
-  unfolding optionsCause
-  options-bad f = cause-holds (badOptions o) 0 r e f
-
-  pub options-fine : r ≡ 0 → badOptions o ≡ false
-  unfolding optionsCause
-  options-fine f = cause-fails (badOptions o) 0 r e f
+pub options-fine : (o : AbtmMultilevelOptions) (r : ℕ) → r ≡ optionsCause o → r ≡ 0 → (badOptions o ≡ false) × (badSwaps o ≡ false)
+unfolding optionsCause
+options-fine o r e f =
+    split (badOptions o)
+    (λ p. let z : _≡_ {A = ℕ} 1 0 = rw p at (sym e ∙ f) in absurd (omega arith))
+    (λ p. (p, cause-fails (badSwaps o) 16 r (e ∙ rw p) f))
 
 -- ---- the tests on counts, as they are made
 
@@ -88,17 +86,24 @@ module _ {n n₁ k k₁ : ℕ} (e : n₁ ≡ n) (f : k₁ ≡ k) {b t : Bool} wh
 -- ---- the first that holds
 
 module _ (c : Call) where
+  pub early-options : (r : ℕ) → r ≡ optionsCause (c .options) → (r ≡ 0 → ⊥) → r ≡ earlyCause c
+  unfolding earlyCause optionsCause
+  early-options r e f =
+      split (badOptions (c .options))
+      (λ p. e ∙ rw p)
+      (λ p. let q = cause-holds (badSwaps (c .options)) 16 r (e ∙ rw p) f in e ∙ rw (p, q))
+
   pub early-is
-      : (b1 b2 b3 b4 b13 b5 : Bool)
-      → badOptions (c .options) ≡ b1
+      : (b2 b3 b4 b13 b5 : Bool)
+      → (badOptions (c .options) ≡ false) × (badSwaps (c .options) ≡ false)
       → badCounts (vertexCount (c .offsets)) (c .ranks) ≡ b2
       → overLimits (vertexCount (c .offsets)) (length (c .neighbors)) (c .ranks) (c .options .«max_levels») ≡ b3
       → badLists (c .offsets) (c .neighbors) ≡ b4
       → badWorkloads (vertexCount (c .offsets)) (c .workloads) ≡ b13
       → tooShort c ≡ b5
-      → firstOf b1 b2 b3 b4 b13 b5 ≡ earlyCause c
+      → firstOf false false b2 b3 b4 b13 b5 ≡ earlyCause c
   unfolding earlyCause
-  early-is b1 b2 b3 b4 b13 b5 e1 e2 e3 e4 e13 e5 = rw (e1, e2, e3, e4, e13, e5)
+  early-is b2 b3 b4 b13 b5 e1 e2 e3 e4 e13 e5 = rw (e1 .0, e1 .1, e2, e3, e4, e13, e5)
 
 -- ---- the work that a division needs is small
 

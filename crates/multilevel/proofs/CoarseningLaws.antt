@@ -16,13 +16,14 @@ use Rattle.links.specs.Lists.{at, unassigned, any, filter, foldl, best, elem, A
 use Rattle.links.specs.Loads.{Balance, balance}
 use Rattle.links.specs.Graph.{row, vertexCount, badLists, Sound}
 use Rattle.links.specs.Workloads.{badWorkloads}
-use Rattle.links.specs.Options.{badOptions, stopSize}
+use Rattle.links.specs.Options.{badOptions, badSwaps, stopSize}
 use Rattle.stages.specs.Coarsen.{closer, partner, Pairing, grouped, match, unmatched, pairing, byDegree, Coarse, coarsenOnce}
 use Rattle.stages.specs.Seeds.{farthestSeeds}
 use Rattle.stages.specs.Growth.{weightedMultisource, grown}
 use Rattle.stages.specs.Moves.{after, refineByCut}
+use Rattle.stages.specs.declared.swaps.Swapping.{Swapping}
 use Rattle.multilevel.specs.Causes.{Call, badCounts, overLimits, firstOf, tooShort, earlyCause}
-use Rattle.multilevel.specs.Division.{Trace, refused, coarsenings, coarsestRows, takeOver, swapPasses, refine, grow, solve, division}
+use Rattle.multilevel.specs.Division.{Trace, refused, coarsenings, coarsestRows, takeOver, swappingOf, noSwapping, refine, grow, solve, division}
 use Rattle.multilevel.specs.Demand3.{siteRows, balanceOf, passesOf, keptSteps}
 use Rattle.links.proofs.ListLaws.{split, all-in, none-filter}
 use Rattle.links.proofs.RowLaws.{length-rows, by-place}
@@ -242,7 +243,7 @@ coarsest-many k (suc l) stop rows ws t h s n w =
     (λ q. rw (p, q) h))
 
 module _ (b : Balance) (passes : ℕ) where
-  refine-7 : (swapping : ℕ) (rows : List (List ℕ)) (ws group : List ℕ) (t : Trace) → refine b passes swapping rows ws group t .refusal ≢ 7
+  refine-7 : (swapping : Swapping) (rows : List (List ℕ)) (ws group : List ℕ) (t : Trace) → refine b passes swapping rows ws group t .refusal ≢ 7
   unfolding refine
   refine-7 swapping rows ws group t = unchecked (b .ranks) (foldl after (t .owners) (refineByCut b rows ws passes (t .owners) .steps)) 7 refl
 
@@ -263,7 +264,7 @@ module _ (b : Balance) (passes : ℕ) where
 
   -- 7 comes from the coarsest level alone
   solve-7
-      : (cs : List Coarse) (swapping : ℕ) (rows : List (List ℕ)) (ws : List ℕ)
+      : (cs : List Coarse) (swapping : Swapping) (rows : List (List ℕ)) (ws : List ℕ)
       → solve b passes swapping rows ws cs .refusal ≡ 7
       → length (coarsestRows rows cs) < b .ranks
   unfolding solve
@@ -273,19 +274,20 @@ module _ (b : Balance) (passes : ℕ) where
       (λ p. absurd (refine-7 swapping rows ws [] t (rw p at e)))
       (λ p. grow-7 rows ws (rw p at e))
   solve-7 (c ∷ cs) swapping rows ws e =
-      let t = solve b passes 0 (c .rows) (c .weights) cs in
+      let t = solve b passes noSwapping (c .rows) (c .weights) cs in
       split (eqb (t .refusal) 0)
       (λ p. absurd (refine-7 swapping rows ws (c .group) (takeOver (c .group) t) (rw p at e)))
-      (λ p. solve-7 cs 0 (c .rows) (c .weights) (rw p at e))
+      (λ p. solve-7 cs noSwapping (c .rows) (c .weights) (rw p at e))
 
-first-7 : (x y z w u v : Bool) → _≢_ {A = ℕ} (firstOf x y z w u v) 7
-first-7 true y z w u v e = omega arith
-first-7 false true z w u v e = omega arith
-first-7 false false true w u v e = omega arith
-first-7 false false false true u v e = omega arith
-first-7 false false false false true v e = omega arith
-first-7 false false false false false true e = omega arith
-first-7 false false false false false false e = omega arith
+first-7 : (x q y z w u v : Bool) → _≢_ {A = ℕ} (firstOf x q y z w u v) 7
+first-7 true q y z w u v e = omega arith
+first-7 false true y z w u v e = omega arith
+first-7 false false true z w u v e = omega arith
+first-7 false false false true w u v e = omega arith
+first-7 false false false false true u v e = omega arith
+first-7 false false false false false true v e = omega arith
+first-7 false false false false false false true e = omega arith
+first-7 false false false false false false false e = omega arith
 
 early-7 : (c : Call) → earlyCause c ≢ 7
 unfolding earlyCause
@@ -293,6 +295,7 @@ early-7 c =
     let n = vertexCount (c .offsets) in
     first-7
     (badOptions (c .options))
+    (badSwaps (c .options))
     (badCounts n (c .ranks))
     (overLimits n (length (c .neighbors)) (c .ranks) (c .options .«max_levels»))
     (badLists (c .offsets) (c .neighbors))
@@ -305,7 +308,7 @@ few-groups c e = ⊎-elim
     (λ z. absurd (early-7 c z))
     (λ z.
     let rows = siteRows c in
-    (z .0, solve-7 (balanceOf c) (passesOf c) (keptSteps c) (swapPasses (passesOf c)) rows (c .workloads) (z .1)))
+    (z .0, solve-7 (balanceOf c) (passesOf c) (keptSteps c) (swappingOf (c .options)) rows (c .workloads) (z .1)))
     (refused-by c 7 e)
 
 -- 7 needs coarse_vertices_per_rank = 1: with more, the steps stop at twice the ranks or above

@@ -17,8 +17,9 @@ use Rattle.links.specs.declared.options.AbtmMultilevelStats.{AbtmMultilevelStat
 use Rattle.stages.specs.Coarsen.{Coarse}
 use Rattle.stages.specs.Growth.{Turn, Growth, grown}
 use Rattle.stages.specs.Moves.{after}
+use Rattle.stages.specs.declared.swaps.Swapping.{Swapping}
 use Rattle.multilevel.specs.Causes.{Call, earlyCause}
-use Rattle.multilevel.specs.Division.{Outcome, refused, divided, Level, Run, Trace, noGrowth, swapPasses, solve, stepsOf, statsOf, abtmMultilevelPartition, division}
+use Rattle.multilevel.specs.Division.{Outcome, refused, divided, Level, Run, Trace, noGrowth, swappingOf, solve, stepsOf, statsOf, abtmMultilevelPartition, division}
 use Rattle.multilevel.specs.Demand3.{siteRows, balanceOf, passesOf, keptSteps, ladder, growthOn, swapsDue, moved, FairTurn, FairLevel, FairShares, Early, WithGrowth, WithoutGrowth, Demand3}
 use Rattle.links.proofs.ListLaws.{split, all-at, sum-ones}
 use Rattle.links.proofs.RowLaws.{length-rows}
@@ -42,7 +43,7 @@ cap-share total k t h j =
     let product = total * (1000 + t) in
     rw (a, b) (div-mono (saturating product) product (1000 * k) (omega arith) (omega arith))
 
-module _ (b : Balance) (rows : List (List ℕ)) (ws : List ℕ) (swapping : ℕ) (cs : List Coarse) (t : Trace) (d : Done b swapping rows ws cs t) where
+module _ (b : Balance) (rows : List (List ℕ)) (ws : List ℕ) (swapping : Swapping) (cs : List Coarse) (t : Trace) (d : Done b swapping rows ws cs t) where
   owners-end : t .owners ≡ foldl after (moved (d .last)) (d .last .swaps)
   owners-end = let l = d .last in d .owners-are ∙ foldl-append after (l .moves) (l .swaps) (l .start)
 
@@ -70,10 +71,10 @@ module _ (b : Balance) (rows : List (List ℕ)) (ws : List ℕ) (swapping : ℕ)
 abbrev pub trace : Call → Trace
 trace c =
     let rows = siteRows c in
-    solve (balanceOf c) (passesOf c) (swapPasses (passesOf c)) rows (c .workloads) (keptSteps c)
+    solve (balanceOf c) (passesOf c) (swappingOf (c .options)) rows (c .workloads) (keptSteps c)
 
 abbrev Ended : Call → Trace → Type 0
-Ended c t = Solved (balanceOf c) (passesOf c) (swapPasses (passesOf c)) (siteRows c) (c .workloads) (keptSteps c) t
+Ended c t = Solved (balanceOf c) (passesOf c) (swappingOf (c .options)) (siteRows c) (c .workloads) (keptSteps c) t
 
 few-ranks : (c : Call) → Tested c → balanceOf c .ranks < unassigned
 unfolding balance
@@ -86,7 +87,7 @@ solved c g =
     let few : length rows ≤ 16384 = omega (arith, length-rows (c .offsets) (c .neighbors), g .few-vertices) in
     let weighed : length (c .workloads) ≡ length rows = g .workloads .sized ∙ sym (length-rows (c .offsets) (c .neighbors)) in
     let chain = chained (c .options .«max_levels») (stopSize (c .options) (c .ranks)) rows (c .workloads) (g .lists .sound) (omega arith) weighed in
-    solve-solved (balanceOf c) (passesOf c) (g .some-ranks) (g .few-ranks) (keptSteps c) (swapPasses (passesOf c)) rows (c .workloads)
+    solve-solved (balanceOf c) (passesOf c) (g .some-ranks) (g .few-ranks) (keptSteps c) (swappingOf (c .options)) rows (c .workloads)
     (g .lists .sound) few chain
 
 divided-of
@@ -103,7 +104,7 @@ refused-of false o s n m e = (refl, cc)
 
 due-is
     : (c : Call) (x : Bool) (o : List ℕ) (s : AbtmMultilevelStats) (n : ℕ) (finer : List Level) (l : Level)
-    → due (balanceOf c) (swapPasses (passesOf c)) x finer l ≡ swapsDue c (cond x (divided o s) (refused n)) finer l
+    → due (balanceOf c) (swappingOf (c .options)) x finer l ≡ swapsDue c (cond x (divided o s) (refused n)) finer l
 due-is c true o s n [] l = refl
 due-is c true o s n (m ∷ finer) l = refl
 due-is c false o s n finer l = refl
@@ -126,7 +127,7 @@ shares-of c g t sol owners s e =
     let k = c .ranks in
     let n = length-rows (c .offsets) (c .neighbors) in
     let per = c .options .«imbalance_per_mille» in
-    let sw = swapPasses (passesOf c) in
+    let sw = swappingOf (c .options) in
     let a = divided-of (eqb (t .refusal) 0) (t .owners) owners s (statsOf rows k (keptSteps c) t) (t .refusal) e in
     let d = sol .done (eqb-true (t .refusal) 0 (a .0)) in
     let weighed : length (c .workloads) ≡ length rows = g .workloads .sized ∙ sym n in
@@ -220,7 +221,7 @@ worked c g t sol =
       ladders = (sol .rest, sol .climbed);
       levels = λ coarser finer l e. all-at (FairLevel b (passesOf c)) (t .levels) coarser finer l (sol .fair) e;
       swaps = λ coarser finer l e.
-          due-at b (swapPasses (passesOf c)) (eqb (t .refusal) 0) (t .levels) coarser finer l (sol .swaps-due) e
+          due-at b (swappingOf (c .options)) (eqb (t .refusal) 0) (t .levels) coarser finer l (sol .swaps-due) e
           ∙ due-is c (eqb (t .refusal) 0) (t .owners) (statsOf rows (c .ranks) cs t) (t .refusal) finer l;
       coarsest = λ l finer e. first-at (t .growth) (t .levels) (sol .first) l finer e;
       takeover = λ coarser finer l m e. linked-at (t .levels) coarser finer l m (sol .linked) e;

@@ -13,18 +13,20 @@ use Rattle.links.specs.Loads.{Balance}
 use Rattle.links.specs.Graph.{vertexCount, badLists, Sound, SoundLists, load, owned}
 use Rattle.links.specs.Workloads.{badWorkloads}
 use Rattle.links.specs.Owners.{emptyRank, fromOwners}
-use Rattle.links.specs.Options.{badOptions}
+use Rattle.links.specs.Options.{badOptions, badSwaps}
 use Rattle.stages.specs.Coarsen.{Coarse, coarsenOnce}
 use Rattle.stages.specs.Seeds.{farthestSeeds}
 use Rattle.stages.specs.Growth.{Turn, Growth, weightedMultisource, grown}
 use Rattle.stages.specs.Moves.{Step, after, repeat, refineByCut}
 use Rattle.stages.specs.Swaps.{refineFinePairSwaps}
+use Rattle.stages.specs.declared.swaps.Swapping.{Swapping}
 use Rattle.multilevel.specs.Causes.{Call, badCounts, overLimits, firstOf, needOf, tooShort, earlyCause}
-use Rattle.multilevel.specs.Division.{Level, Trace, noGrowth, stopped, coarsenings, takeOver, listLength, refine, grow, solve}
+use Rattle.multilevel.specs.Division.{Level, Trace, noGrowth, stopped, coarsenings, takeOver, noSwapping, refine, grow, solve}
 use Rattle.multilevel.specs.Demand3.{Lists, listsOf, ladder, growthOn, moved, ended, FairTurn, FairLevel, Early, Emptied}
 use Rattle.links.proofs.ListLaws.{split, or-l, or-r, all-append, all-in, elem-range, any-none}
 use Rattle.links.proofs.SoundLaws.{sound-lists}
 use Rattle.links.proofs.WorkloadLaws.{GoodWorkloads, good-workloads}
+use Rattle.links.proofs.OptionLaws.{GoodListLength, good-swaps}
 use Rattle.stages.proofs.StepLaws.{Along, foldl-append, length-steps, Swapped, moves-made, swaps-made}
 use Rattle.stages.proofs.GrowthLaws.{length-seeds, length-grown, growth-fair, allPass, growth-last}
 use Rattle.stages.proofs.LoadLaws.{growth-within, moves-within}
@@ -48,30 +50,33 @@ pub record Tested (c : Call) : Type 0 where
   pub some-per-rank : 1 ≤ c .options .«coarse_vertices_per_rank»
   pub some-passes : 1 ≤ c .options .«refinement_passes»
   pub tolerance : c .options .«imbalance_per_mille» ≤ 500
+  pub listed : GoodListLength (c .options .«swap_list_length»)
   pub owners-fit : vertexCount (c .offsets) ≤ c .ownersLength
   pub work-fits : needOf c ≤ c .workLength
   pub workloads : GoodWorkloads (vertexCount (c .offsets)) (c .workloads)
 
 first-none
-    : (x y z w u v : Bool)
-    → _≡_ {A = ℕ} (firstOf x y z w u v) 0
-    → (x ≡ false) × (y ≡ false) × (z ≡ false) × (w ≡ false) × (u ≡ false) × (v ≡ false)
-first-none true y z w u v e = absurd (omega arith)
-first-none false true z w u v e = absurd (omega arith)
-first-none false false true w u v e = absurd (omega arith)
-first-none false false false true u v e = absurd (omega arith)
-first-none false false false false true v e = absurd (omega arith)
-first-none false false false false false true e = absurd (omega arith)
-first-none false false false false false false e = (refl, refl, refl, refl, refl, refl)
+    : (x q y z w u v : Bool)
+    → _≡_ {A = ℕ} (firstOf x q y z w u v) 0
+    → (x ≡ false) × (q ≡ false) × (y ≡ false) × (z ≡ false) × (w ≡ false) × (u ≡ false) × (v ≡ false)
+first-none true q y z w u v e = absurd (omega arith)
+first-none false true y z w u v e = absurd (omega arith)
+first-none false false true z w u v e = absurd (omega arith)
+first-none false false false true w u v e = absurd (omega arith)
+first-none false false false false true u v e = absurd (omega arith)
+first-none false false false false false true v e = absurd (omega arith)
+first-none false false false false false false true e = absurd (omega arith)
+first-none false false false false false false false e = (refl, refl, refl, refl, refl, refl, refl)
 
-first-early : (x y z w u v : Bool) → firstOf x y z w u v ≢ 0 → Early (firstOf x y z w u v)
-first-early true y z w u v d = refl
-first-early false true z w u v d = refl
-first-early false false true w u v d = refl
-first-early false false false true u v d = refl
-first-early false false false false true v d = refl
-first-early false false false false false true d = refl
-first-early false false false false false false d = absurd (d refl)
+first-early : (x q y z w u v : Bool) → firstOf x q y z w u v ≢ 0 → Early (firstOf x q y z w u v)
+first-early true q y z w u v d = refl
+first-early false true y z w u v d = refl
+first-early false false true z w u v d = refl
+first-early false false false true w u v d = refl
+first-early false false false false true u v d = refl
+first-early false false false false false true v d = refl
+first-early false false false false false false true d = refl
+first-early false false false false false false false d = absurd (d refl)
 
 -- a call with no early cause has passed them all
 pub tested : (c : Call) → earlyCause c ≡ 0 → Tested c
@@ -81,25 +86,26 @@ tested c e =
     let n = vertexCount (c .offsets) in
     let m = length (c .neighbors) in
     let k = c .ranks in
-    let f = first-none (badOptions o) (badCounts n k) (overLimits n m k (o .«max_levels»)) (badLists (c .offsets) (c .neighbors)) (badWorkloads n (c .workloads)) (tooShort c) e in
+    let f = first-none (badOptions o) (badSwaps o) (badCounts n k) (overLimits n m k (o .«max_levels»)) (badLists (c .offsets) (c .neighbors)) (badWorkloads n (c .workloads)) (tooShort c) e in
     let good = good-options o (f .0) in
-    let within = limited n m k (o .«max_levels») (f .2) in
-    let kne : k ≢ 0 = eqb-false k 0 (or-r (eqb n 0) (eqb k 0) (or-l (eqb n 0 || eqb k 0) (ltb n k) (f .1))) in
+    let within = limited n m k (o .«max_levels») (f .3) in
+    let kne : k ≢ 0 = eqb-false k 0 (or-r (eqb n 0) (eqb k 0) (or-l (eqb n 0 || eqb k 0) (ltb n k) (f .2))) in
     record {
-      lists = sound-lists (c .offsets) (c .neighbors) (f .3);
+      lists = sound-lists (c .offsets) (c .neighbors) (f .4);
       few-vertices = within .few-vertices;
       few-entries = within .few-entries;
       some-ranks = omega arith;
       few-ranks = within .few-ranks;
-      enough-vertices = ltb-false n k (or-r (eqb n 0 || eqb k 0) (ltb n k) (f .1));
+      enough-vertices = ltb-false n k (or-r (eqb n 0 || eqb k 0) (ltb n k) (f .2));
       some-levels = good .levels;
       few-levels = within .few-levels;
       some-per-rank = good .per-rank;
       some-passes = good .passes;
       tolerance = good .tolerance;
-      owners-fit = ltb-false (c .ownersLength) n (or-l (ltb (c .ownersLength) n) (ltb (c .workLength) (needOf c)) (f .5));
-      work-fits = ltb-false (c .workLength) (needOf c) (or-r (ltb (c .ownersLength) n) (ltb (c .workLength) (needOf c)) (f .5));
-      workloads = good-workloads n (c .workloads) (f .4);
+      listed = good-swaps o (f .1);
+      owners-fit = ltb-false (c .ownersLength) n (or-l (ltb (c .ownersLength) n) (ltb (c .workLength) (needOf c)) (f .6));
+      work-fits = ltb-false (c .workLength) (needOf c) (or-r (ltb (c .ownersLength) n) (ltb (c .workLength) (needOf c)) (f .6));
+      workloads = good-workloads n (c .workloads) (f .5);
     }
 
 -- an early cause has an early number
@@ -109,6 +115,7 @@ early-number c d =
     let n = vertexCount (c .offsets) in
     first-early
     (badOptions (c .options))
+    (badSwaps (c .options))
     (badCounts n (c .ranks))
     (overLimits n (length (c .neighbors)) (c .ranks) (c .options .«max_levels»))
     (badLists (c .offsets) (c .neighbors))
@@ -253,10 +260,10 @@ grew-on k g t (not-yet e l early) z = absurd (early-some (t .refusal) early z)
 abbrev Unswapped : Level → Type 0
 Unswapped l = l .swaps ≡ []
 
-module _ (b : Balance) (swapping : ℕ) where
+module _ (b : Balance) (swapping : Swapping) where
   -- the swaps of a level that these finer ones follow, with so many passes; none where the division was refused
   abbrev pub due : Bool → List Level → Level → List Step
-  due true [] l = refineFinePairSwaps b (l .rows) (l .weights) listLength swapping (moved l) .steps
+  due true [] l = refineFinePairSwaps b (l .rows) (l .weights) (swapping .«list_length») (swapping .passes) (moved l) .steps
   due true (m ∷ finer) l = []
   due false finer l = []
 
@@ -290,7 +297,7 @@ module _ (b : Balance) (swapping : ℕ) where
 
 module _ (b : Balance) where
   -- it has come through the level of these lists, and was not refused: its levels, the last of them, and where its owners stand
-  pub record Done (swapping : ℕ) (rows : List (List ℕ)) (ws : List ℕ) (cs : List Coarse) (t : Trace) : Type 0 where
+  pub record Done (swapping : Swapping) (rows : List (List ℕ)) (ws : List ℕ) (cs : List Coarse) (t : Trace) : Type 0 where
     pub coarser : List Level
     pub last : Level
     pub levels-are : t .levels ≡ coarser ++ last ∷ []
@@ -302,15 +309,15 @@ module _ (b : Balance) where
     pub within : (r : ℕ) → r < b .ranks → load ws (moved last) r ≤ b .cap
     pub checked : fromOwners (b .ranks) (moved last) ≡ 0
     pub enough : b .ranks ≤ length rows
-    pub still : swapping ≡ 0 → t .owners ≡ moved last
+    pub still : swapping .passes ≡ 0 → t .owners ≡ moved last
 
   -- what holds of it, refused or not
-  pub record Solved (passes swapping : ℕ) (rows : List (List ℕ)) (ws : List ℕ) (cs : List Coarse) (t : Trace) : Type 0 where
+  pub record Solved (passes : ℕ) (swapping : Swapping) (rows : List (List ℕ)) (ws : List ℕ) (cs : List Coarse) (t : Trace) : Type 0 where
     pub growth : Grew (b .ranks) (growthOn b rows ws cs) t
     pub unclaimed : t .refusal ≡ 8 → any (eqb unassigned) (grown (t .growth) (t .growth .turns)) ≡ true
     pub fair : All (FairLevel b passes) (t .levels)
     pub swaps-due : Due b swapping (eqb (t .refusal) 0) (t .levels)
-    pub unswapped : swapping ≡ 0 → All Unswapped (t .levels)
+    pub unswapped : swapping .passes ≡ 0 → All Unswapped (t .levels)
     pub first : First (t .growth) (t .levels)
     pub linked : Linked (t .levels)
     pub rest : List Lists
@@ -318,16 +325,16 @@ module _ (b : Balance) where
     pub done : t .refusal ≡ 0 → Done swapping rows ws cs t
 
   -- a level's swaps, made if the check found no refusal
-  module _ (rows : List (List ℕ)) (ws : List ℕ) (swapping : ℕ) (o : List ℕ) where
+  module _ (rows : List (List ℕ)) (ws : List ℕ) (swapping : Swapping) (o : List ℕ) where
     swaps : Bool → List Step
-    swaps x = cond x (refineFinePairSwaps b rows ws listLength swapping o .steps) []
+    swaps x = cond x (refineFinePairSwaps b rows ws (swapping .«list_length») (swapping .passes) o .steps) []
 
     swaps-along : (x : Bool) → Along (Swapped (b .cap) rows ws) after o (swaps x)
     unfolding swaps
-    swaps-along true = swaps-made b rows ws listLength swapping o
+    swaps-along true = swaps-made b rows ws (swapping .«list_length») (swapping .passes) o
     swaps-along false = tt
 
-    no-swaps : (x : Bool) → swapping ≡ 0 → swaps x ≡ []
+    no-swaps : (x : Bool) → swapping .passes ≡ 0 → swaps x ≡ []
     unfolding swaps refineFinePairSwaps repeat
     no-swaps true e = rw e
     no-swaps false e = refl
@@ -338,7 +345,7 @@ module _ (b : Balance) where
     swaps-are false l er ew eo = refl
 
   -- the level that a refinement adds: it has rule 6's moves from its start, and then rule 7's swaps
-  module _ (passes swapping : ℕ) (rows : List (List ℕ)) (ws group : List ℕ) (t : Trace) where
+  module _ (passes : ℕ) (swapping : Swapping) (rows : List (List ℕ)) (ws group : List ℕ) (t : Trace) where
     abbrev made-level : Level
     made-level =
         let m = refineByCut b rows ws passes (t .owners) in
@@ -366,7 +373,7 @@ module _ (b : Balance) where
 
   module _ (passes : ℕ) (some-ranks : 1 ≤ b .ranks) (few-ranks : b .ranks ≤ 256) where
     refine-solved
-        : (swapping : ℕ) (rows : List (List ℕ)) (ws group : List ℕ) (cs : List Coarse) (lower : List Lists) (t : Trace)
+        : (swapping : Swapping) (rows : List (List ℕ)) (ws group : List ℕ) (cs : List Coarse) (lower : List Lists) (t : Trace)
         → Sound rows
         → Enters passes rows ws group cs lower t
         → Solved passes swapping rows ws cs (refine b passes swapping rows ws group t)
@@ -479,7 +486,7 @@ module _ (b : Balance) where
         }
 
     coarsest-solved
-        : (swapping : ℕ) (rows : List (List ℕ)) (ws : List ℕ)
+        : (swapping : Swapping) (rows : List (List ℕ)) (ws : List ℕ)
         → Sound rows
         → length rows ≤ 16384
         → (let t = grow b passes rows ws in Solved passes swapping rows ws [] (cond (eqb (t .refusal) 0) (refine b passes swapping rows ws [] t) t))
@@ -516,12 +523,12 @@ module _ (b : Balance) where
         }))
 
     finer-solved
-        : (c : Coarse) (cs : List Coarse) (swapping : ℕ) (rows : List (List ℕ)) (ws : List ℕ)
+        : (c : Coarse) (cs : List Coarse) (swapping : Swapping) (rows : List (List ℕ)) (ws : List ℕ)
         → Sound rows
         → length rows ≤ 16384
         → Coarser rows ws c
         → (t : Trace)
-        → Solved passes 0 (c .rows) (c .weights) cs t
+        → Solved passes noSwapping (c .rows) (c .weights) cs t
         → Solved passes swapping rows ws (c ∷ cs) (cond (eqb (t .refusal) 0) (refine b passes swapping rows ws (c .group) (takeOver (c .group) t)) t)
     finer-solved c cs swapping rows ws s few co t ih =
         let top : Lists = record { rows = rows; weights = ws; group = c .group } in
@@ -564,7 +571,7 @@ module _ (b : Balance) where
 
     -- by induction on the coarsening steps kept
     pub solve-solved
-        : (cs : List Coarse) (swapping : ℕ) (rows : List (List ℕ)) (ws : List ℕ)
+        : (cs : List Coarse) (swapping : Swapping) (rows : List (List ℕ)) (ws : List ℕ)
         → Sound rows
         → length rows ≤ 16384
         → Chain rows ws cs
@@ -572,6 +579,6 @@ module _ (b : Balance) where
     unfolding solve
     solve-solved [] swapping rows ws s few ch = coarsest-solved swapping rows ws s few
     solve-solved (c ∷ cs) swapping rows ws s few ch =
-        let t = solve b passes 0 (c .rows) (c .weights) cs in
+        let t = solve b passes noSwapping (c .rows) (c .weights) cs in
         finer-solved c cs swapping rows ws s few (ch .0) t
-        (solve-solved cs 0 (c .rows) (c .weights) (ch .0 .sound) (omega (arith, ch .0 .fewer)) (ch .1))
+        (solve-solved cs noSwapping (c .rows) (c .weights) (ch .0 .sound) (omega (arith, ch .0 .fewer)) (ch .1))

@@ -18,7 +18,8 @@ use Rattle.stages.specs.Coarsen.{Coarse, coarsenOnce}
 use Rattle.stages.specs.Growth.{restartCount}
 use Rattle.stages.specs.Moves.{after, refineByCut, repeat}
 use Rattle.stages.specs.Swaps.{refineFinePairSwaps}
-use Rattle.multilevel.specs.Division.{Level, Trace, coarsenings, refine, grow, solve, takeOver, statsOf, listLength}
+use Rattle.stages.specs.declared.swaps.Swapping.{Swapping}
+use Rattle.multilevel.specs.Division.{Level, Trace, coarsenings, refine, grow, solve, takeOver, statsOf, noSwapping}
 use Rattle.multilevel.specs.Driver.{solved, movesFrom, movedFrom, finestSwaps, stepCount, statsSoFar}
 
 -- ---- when coarsening goes on
@@ -60,32 +61,32 @@ unfolding stepCount
 count-one l = omega (arith, length-append (l .moves) (l .swaps))
 
 -- with no pass there is no swap
-none-swapped : (b : Balance) (rows : List (List ℕ)) (ws owners : List ℕ) → refineFinePairSwaps b rows ws listLength 0 owners .steps ≡ []
+none-swapped : (b : Balance) (rows : List (List ℕ)) (ws owners : List ℕ) → refineFinePairSwaps b rows ws 0 0 owners .steps ≡ []
 unfolding refineFinePairSwaps repeat
 none-swapped b rows ws owners = refl
 
 module _ (b : Balance) (passes : ℕ) (rows : List (List ℕ)) (ws group : List ℕ) (t : Trace) where
-  pub refine-refusal : (sw : ℕ) → refine b passes sw rows ws group t .refusal ≡ fromOwners (b .ranks) (movedFrom b passes rows ws (t .owners))
+  pub refine-refusal : (sw : Swapping) → refine b passes sw rows ws group t .refusal ≡ fromOwners (b .ranks) (movedFrom b passes rows ws (t .owners))
   unfolding refine movedFrom movesFrom
   refine-refusal sw = refl
 
-  pub refine-growth : (sw : ℕ) → refine b passes sw rows ws group t .growth ≡ t .growth
+  pub refine-growth : (sw : Swapping) → refine b passes sw rows ws group t .growth ≡ t .growth
   unfolding refine
   refine-growth sw = refl
 
   module _ (z : fromOwners (b .ranks) (movedFrom b passes rows ws (t .owners)) ≡ 0) where
     -- what a level leaves, with its swaps
     swapped-owners
-        : (sw : ℕ)
+        : (sw : Swapping)
         → refine b passes sw rows ws group t .owners
-        ≡ foldl after (movedFrom b passes rows ws (t .owners)) (refineFinePairSwaps b rows ws listLength sw (movedFrom b passes rows ws (t .owners)) .steps)
+        ≡ foldl after (movedFrom b passes rows ws (t .owners)) (refineFinePairSwaps b rows ws (sw .«list_length») (sw .passes) (movedFrom b passes rows ws (t .owners)) .steps)
     unfolding refine movedFrom movesFrom
     swapped-owners sw = rw (eq-eqb (fromOwners (b .ranks) (foldl after (t .owners) (refineByCut b rows ws passes (t .owners) .steps))) 0 z)
 
     swapped-count
-        : (sw : ℕ)
+        : (sw : Swapping)
         → stepCount (refine b passes sw rows ws group t .levels)
-        ≡ stepCount (t .levels) + (length (movesFrom b passes rows ws (t .owners)) + length (refineFinePairSwaps b rows ws listLength sw (movedFrom b passes rows ws (t .owners)) .steps))
+        ≡ stepCount (t .levels) + (length (movesFrom b passes rows ws (t .owners)) + length (refineFinePairSwaps b rows ws (sw .«list_length») (sw .passes) (movedFrom b passes rows ws (t .owners)) .steps))
     unfolding refine movedFrom movesFrom
     swapped-count sw =
         rw (eq-eqb (fromOwners (b .ranks) (foldl after (t .owners) (refineByCut b rows ws passes (t .owners) .steps))) 0 z)
@@ -100,15 +101,15 @@ module _ (b : Balance) (passes : ℕ) (rows : List (List ℕ)) (ws group : List 
               start = t .owners;
               moves = refineByCut b rows ws passes (t .owners) .steps;
               settled = refineByCut b rows ws passes (t .owners) .settled;
-              swaps = refineFinePairSwaps b rows ws listLength sw (foldl after (t .owners) (refineByCut b rows ws passes (t .owners) .steps)) .steps;
+              swaps = refineFinePairSwaps b rows ws (sw .«list_length») (sw .passes) (foldl after (t .owners) (refineByCut b rows ws passes (t .owners) .steps)) .steps;
             }
 
-    pub refine-owners : refine b passes 0 rows ws group t .owners ≡ movedFrom b passes rows ws (t .owners)
-    refine-owners = swapped-owners 0 ∙ ap (foldl after (movedFrom b passes rows ws (t .owners))) (none-swapped b rows ws (movedFrom b passes rows ws (t .owners)))
+    pub refine-owners : refine b passes noSwapping rows ws group t .owners ≡ movedFrom b passes rows ws (t .owners)
+    refine-owners = swapped-owners noSwapping ∙ ap (foldl after (movedFrom b passes rows ws (t .owners))) (none-swapped b rows ws (movedFrom b passes rows ws (t .owners)))
 
-    pub refine-count : stepCount (refine b passes 0 rows ws group t .levels) ≡ stepCount (t .levels) + length (movesFrom b passes rows ws (t .owners))
+    pub refine-count : stepCount (refine b passes noSwapping rows ws group t .levels) ≡ stepCount (t .levels) + length (movesFrom b passes rows ws (t .owners))
     refine-count =
-        swapped-count 0
+        swapped-count noSwapping
         ∙ omega (arith, ap length (none-swapped b rows ws (movedFrom b passes rows ws (t .owners))))
 
 -- ---- a level and those coarser than it
@@ -116,7 +117,7 @@ module _ (b : Balance) (passes : ℕ) (rows : List (List ℕ)) (ws group : List 
 module _ (b : Balance) (passes : ℕ) (rows : List (List ℕ)) (ws : List ℕ) where
   -- what the coarsest level does with its growth, and a finer one with what it took over
   pub onward : List ℕ → Trace → Trace → Trace
-  onward group t s = cond (eqb (t .refusal) 0) (refine b passes 0 rows ws group s) t
+  onward group t s = cond (eqb (t .refusal) 0) (refine b passes noSwapping rows ws group s) t
 
   pub solved-coarsest : solved b passes rows ws [] ≡ onward [] (grow b passes rows ws) (grow b passes rows ws)
   unfolding solved solve onward
@@ -134,13 +135,13 @@ module _ (b : Balance) (passes : ℕ) (rows : List (List ℕ)) (ws : List ℕ) w
   unfolding onward
   onward-refused group t s d = rw (ne-eqb (t .refusal) 0 d)
 
-  pub onward-moves : (group : List ℕ) (t s : Trace) → t .refusal ≡ 0 → onward group t s ≡ refine b passes 0 rows ws group s
+  pub onward-moves : (group : List ℕ) (t s : Trace) → t .refusal ≡ 0 → onward group t s ≡ refine b passes noSwapping rows ws group s
   unfolding onward
   onward-moves group t s e = rw (eq-eqb (t .refusal) 0 e)
 
   -- ---- the finest level's swaps come last
 
-  module _ (sw : ℕ) where
+  module _ (sw : Swapping) where
     swapping : List ℕ → Trace → Trace → Trace
     swapping group t s = cond (eqb (t .refusal) 0) (refine b passes sw rows ws group s) t
 
@@ -155,19 +156,19 @@ module _ (b : Balance) (passes : ℕ) (rows : List (List ℕ)) (ws : List ℕ) w
     unfolding swapping onward finestSwaps
     swapped group t s = split (eqb (t .refusal) 0)
         (λ p.
-        let same = refine-refusal b passes rows ws group s 0 in
-        let zero-of : refine b passes 0 rows ws group s .refusal ≡ 0 → fromOwners (b .ranks) (movedFrom b passes rows ws (s .owners)) ≡ 0 = λ z. sym same ∙ z in
+        let same = refine-refusal b passes rows ws group s noSwapping in
+        let zero-of : refine b passes noSwapping rows ws group s .refusal ≡ 0 → fromOwners (b .ranks) (movedFrom b passes rows ws (s .owners)) ≡ 0 = λ z. sym same ∙ z in
         rw p
         (record {
           refusal-is = refine-refusal b passes rows ws group s sw ∙ sym same;
-          growth-is = refine-growth b passes rows ws group s sw ∙ sym (refine-growth b passes rows ws group s 0);
+          growth-is = refine-growth b passes rows ws group s sw ∙ sym (refine-growth b passes rows ws group s noSwapping);
           owners-are = λ z.
               swapped-owners b passes rows ws group s (zero-of z) sw
-              ∙ ap (λ (o : List ℕ). foldl after o (refineFinePairSwaps b rows ws listLength sw o .steps)) (sym (refine-owners b passes rows ws group s (zero-of z)));
+              ∙ ap (λ (o : List ℕ). foldl after o (refineFinePairSwaps b rows ws (sw .«list_length») (sw .passes) o .steps)) (sym (refine-owners b passes rows ws group s (zero-of z)));
           count-is = λ z.
               let o = refine-owners b passes rows ws group s (zero-of z) in
-              let e : length (refineFinePairSwaps b rows ws listLength sw (movedFrom b passes rows ws (s .owners)) .steps) ≡ length (refineFinePairSwaps b rows ws listLength sw (refine b passes 0 rows ws group s .owners) .steps) =
-              ap (λ (x : List ℕ). length (refineFinePairSwaps b rows ws listLength sw x .steps)) (sym o) in
+              let e : length (refineFinePairSwaps b rows ws (sw .«list_length») (sw .passes) (movedFrom b passes rows ws (s .owners)) .steps) ≡ length (refineFinePairSwaps b rows ws (sw .«list_length») (sw .passes) (refine b passes noSwapping rows ws group s .owners) .steps) =
+              ap (λ (x : List ℕ). length (refineFinePairSwaps b rows ws (sw .«list_length») (sw .passes) x .steps)) (sym o) in
               omega (arith, swapped-count b passes rows ws group s (zero-of z) sw, refine-count b passes rows ws group s (zero-of z));
         }))
         (λ p. rw p
@@ -181,7 +182,7 @@ module _ (b : Balance) (passes : ℕ) (rows : List (List ℕ)) (ws : List ℕ) w
     pub solve-swapped : (cs : List Coarse) → Swapped (solve b passes sw rows ws cs) (solved b passes rows ws cs)
     unfolding solved solve swapping onward
     solve-swapped [] = swapped [] (grow b passes rows ws) (grow b passes rows ws)
-    solve-swapped (c ∷ cs) = swapped (c .group) (solve b passes 0 (c .rows) (c .weights) cs) (takeOver (c .group) (solve b passes 0 (c .rows) (c .weights) cs))
+    solve-swapped (c ∷ cs) = swapped (c .group) (solve b passes noSwapping (c .rows) (c .weights) cs) (takeOver (c .group) (solve b passes noSwapping (c .rows) (c .weights) cs))
 
 -- ---- stats
 

@@ -27,7 +27,7 @@ use Rattle.multilevel.specs.declared.driver.Answer.the-variants.{Divided
 use Rattle.multilevel.specs.declared.driver.Rules.{Rules}
 use Rattle.multilevel.specs.declared.measure.Measures.{Measures}
 use Rattle.multilevel.specs.Causes.{Call, Limited, needOf, earlyCause}
-use Rattle.multilevel.specs.Division.{Outcome, divided, swapPasses, division}
+use Rattle.multilevel.specs.Division.{Outcome, divided, swappingOf, division}
 use Rattle.multilevel.specs.Demand3.{siteRows, balanceOf, keptSteps}
 use Rattle.multilevel.specs.Room.{SiteFits, SiteLaid}
 use Rattle.multilevel.specs.Measure.{Measurable, Measured}
@@ -42,7 +42,7 @@ use Rattle.multilevel.proofs.CallLaws.{withWork, exact-passes, same-run
 
 -- ---- swaps and measures
 
-module _ (w : List ℕ) (l : HierarchyLevel) (q : Rules) (lists : ℕ) (f : Finishing w l q lists) (w₁ : List ℕ) (passes swaps : ℕ) (ep : passes ≡ swapPasses (q .passes)) (r : RefinedBySwaps w w₁ l (q .scratch) (q .limits) passes swaps) where
+module _ (w : List ℕ) (l : HierarchyLevel) (q : Rules) (lists : ℕ) (f : Finishing w l q lists) (w₁ : List ℕ) (swaps : ℕ) (r : RefinedBySwaps w w₁ l (q .scratch) (q .limits) (q .swapping) swaps) where
   owned : length (ownersAt w l) ≡ l .vertices
   owned = length-part w (l .owners) (l .owners + l .vertices) (omega arith) (omega (arith, f .ready .laid, f .ready .inside)) ∙ omega arith
 
@@ -58,12 +58,12 @@ module _ (w : List ℕ) (l : HierarchyLevel) (q : Rules) (lists : ℕ) (f : Fini
         inside = omega (arith, f .room, f .lists-in, r .kept .same-length);
       }
 
-  few-swaps : length (swapsAt w l (q .limits) passes) ≤ 131072
+  few-swaps : length (swapsAt w l (q .limits) (q .swapping)) ≤ 131072
   few-swaps =
       let rows = rowsAt w l in
       let n : length (ownersAt w l) ≡ length rows = owned ∙ sym (all-vertices (f .ready)) in
       omega
-      (arith, swaps-few (balanceIn (q .limits)) rows (weightsAt w l) (f .ready .lists .sound) 8 passes (ownersAt w l) n, cut-entries rows (ownersAt w l), list-entries _ _ (f .ready .lists), length-neighbors (f .ready), f .ready .short)
+      (arith, swaps-few (balanceIn (q .limits)) rows (weightsAt w l) (f .ready .lists .sound) (q .swapping .«list_length») (q .swapping .passes) (ownersAt w l) n, cut-entries rows (ownersAt w l), list-entries _ _ (f .ready .lists), length-neighbors (f .ready), f .ready .short)
 
   pub finished
       : (w₂ : List ℕ) (m : Measures) (s s₁ s₂ : AbtmMultilevelStats)
@@ -75,13 +75,12 @@ module _ (w : List ℕ) (l : HierarchyLevel) (q : Rules) (lists : ℕ) (f : Fini
       let same : ownersAt w₂ l ≡ ownersAt w₁ l =
       kept-part-before (q .scratch) (q .scratch + q .limits .ranks) w₂ w₁ (k .frame) (l .owners) (l .owners + l .vertices) (omega (arith, r .ready .laid)) in
       let rows : rowsAt w₁ l ≡ rowsAt w l = rows-kept (f .ready) (r .kept) (omega (arith, f .ready .laid)) in
-      let n : swaps ≡ length (swapsAt w l (q .limits) (swapPasses (q .passes))) = r .number ∙ ap (λ (x : ℕ). length (swapsAt w l (q .limits) x)) ep in
       let cut : m .cut ≡ cutEntries (rowsAt w l) (ownersAt w₂ l) = k .cut-counted ∙ rw (rows, same) in
       let vol : m .volume ≡ volume (rowsAt w l) (ownersAt w₂ l) (q .limits .ranks) = k .volume-counted ∙ rw (rows, same) in
       record {
-        owners-are = same ∙ r .owners ∙ ap (λ (x : ℕ). foldl after (ownersAt w l) (swapsAt w l (q .limits) x)) ep;
-        few = rw ep at few-swaps;
-        stats-are = e₂ ∙ rw (e₁, n, cut, vol);
+        owners-are = same ∙ r .owners;
+        few = few-swaps;
+        stats-are = e₂ ∙ rw (e₁, r .number, cut, vol);
         same-length = k .frame .same-length ∙ r .kept .same-length;
       }
 
@@ -146,6 +145,8 @@ module _ (c : Call) (w : List ℕ) (d : Divisible c w) where
                 ready = placed-ready w₂ (siteLevel c) (rulesFor c) (c .options .«max_levels») placed₂;
                 room = omega (arith, t′ .enough-vertices);
                 lists-in = omega (arith, same-length);
+                some-listed = t′ .listed .some;
+                few-listed = t′ .listed .few;
                 few-ranks = t′ .few-ranks;
                 ranked = λ v h.
                     all-place (λ x. x < c .ranks) (ownersAt w₂ (siteLevel c)) v
@@ -172,23 +173,24 @@ module _ (c : Call) (w : List ℕ) (d : Divisible c w) where
 
             -- the code's swaps are the division's
             swaps-are
-                : swapsAt w₂ (siteLevel c) (rulesFor c .limits) (swapPasses (c .options .«refinement_passes»))
-                ≡ finestSwaps (balanceOf c) (swapPasses (c .options .«refinement_passes»)) (siteRows c) (c .workloads) (solved (balanceOf c) (c .options .«refinement_passes») (siteRows c) (c .workloads) (keptSteps c))
+                : swapsAt w₂ (siteLevel c) (rulesFor c .limits) (rulesFor c .swapping)
+                ≡ finestSwaps (balanceOf c) (swappingOf (c .options)) (siteRows c) (c .workloads) (solved (balanceOf c) (c .options .«refinement_passes») (siteRows c) (c .workloads) (keptSteps c))
             unfolding finestSwaps
             swaps-are =
                 let z = divided-of (solved (balanceOf c) (c .options .«refinement_passes») (siteRows c) (c .workloads) (keptSteps c) .refusal) _ t (rw r at (told .answer-is)) .0 in
                 let b = balanceOf c in
-                let sw = swapPasses (c .options .«refinement_passes») in
-                ap (λ (x : Balance). refineFinePairSwaps x (rowsAt w₂ (siteLevel c)) (weightsAt w₂ (siteLevel c)) 8 sw (ownersAt w₂ (siteLevel c)) .steps) (same-balance c w d)
-                ∙ ap (λ (x : List (List ℕ)). refineFinePairSwaps b x (weightsAt w₂ (siteLevel c)) 8 sw (ownersAt w₂ (siteLevel c)) .steps) rows₂
-                ∙ ap (λ (x : List ℕ). refineFinePairSwaps b (siteRows c) x 8 sw (ownersAt w₂ (siteLevel c)) .steps) weights₂
-                ∙ ap (λ (x : List ℕ). refineFinePairSwaps b (siteRows c) (c .workloads) 8 sw x .steps) (told .owners-are z)
+                let n = swappingOf (c .options) .«list_length» in
+                let sw = swappingOf (c .options) .passes in
+                ap (λ (x : Balance). refineFinePairSwaps x (rowsAt w₂ (siteLevel c)) (weightsAt w₂ (siteLevel c)) n sw (ownersAt w₂ (siteLevel c)) .steps) (same-balance c w d)
+                ∙ ap (λ (x : List (List ℕ)). refineFinePairSwaps b x (weightsAt w₂ (siteLevel c)) n sw (ownersAt w₂ (siteLevel c)) .steps) rows₂
+                ∙ ap (λ (x : List ℕ). refineFinePairSwaps b (siteRows c) x n sw (ownersAt w₂ (siteLevel c)) .steps) weights₂
+                ∙ ap (λ (x : List ℕ). refineFinePairSwaps b (siteRows c) (c .workloads) n sw x .steps) (told .owners-are z)
 
             pub code-divided : (owners owners′ : List ℕ) → owners′ ≡ ownersAt w₃ l ++ drop (l .vertices) owners → SiteDivided c owners owners′ (Divided t′)
             code-divided owners owners′ eo =
                 let o₂ = ownersAt w₂ (siteLevel c) in
                 let o₃ = ownersAt w₃ (siteLevel c) in
-                let sw = swapsAt w₂ (siteLevel c) (rulesFor c .limits) (swapPasses (c .options .«refinement_passes»)) in
+                let sw = swapsAt w₂ (siteLevel c) (rulesFor c .limits) (rulesFor c .swapping) in
                 let out : division c .outcome ≡ divided o₃ (measuredStats (addedMoves t (length sw)) (cutEntries (siteRows c) o₃) (volume (siteRows c) o₃ (c .ranks))) =
                 finish-divided c (d .passed) (c .options .«max_levels») o₂ o₃ t (length sw) _ _ (rw r at told) (tested c (d .passed) .few-levels)
                 (end .owners-are ∙ ap (foldl after o₂) swaps-are) (ap length swaps-are) (end .few) refl refl in

@@ -8,10 +8,11 @@ use lib.ListN.{length}
 use lib.Dec.{ltb}
 use borrow.Author.Tests.{ltb-false, lt-ltb, le-ltb, eq-eqb, ne-eqb}
 use Rattle.links.specs.Lists.{at, any}
+use Rattle.links.specs.Options.{badListLength, badSwaps}
 use Rattle.links.specs.Workloads.{badWorkload, badWorkloads}
 use Rattle.links.proofs.WorkloadLaws.{workloads-fine}
 use Rattle.links.proofs.ListLaws.{split, and-l, and-r, or-l, or-r}
-use Rattle.multilevel.specs.File.{number, lowEnd, highEnd, linkBefore, goodLink, goodLinks, vertexCountOf, linkCountOf, overProgramLimits, goodLength, fileWorkloads, fileCause, Sized}
+use Rattle.multilevel.specs.File.{number, sizesOf, lowEnd, highEnd, linkBefore, goodLink, goodLinks, vertexCountOf, linkCountOf, overProgramLimits, goodLength, fileWorkloads, fileCause, Sized}
 use Rattle.multilevel.proofs.FileWorkloadLaws.{workloads-told, links-within}
 
 module _ (b : List ℕ) (i j x y : ℕ) (ex : x ≡ lowEnd b i) (ey : y ≡ lowEnd b j) where
@@ -90,6 +91,11 @@ module _ (b : List ℕ) where
         pub file-sized : (e : ℕ) → e ≡ linkCountOf b → Sized b e
         file-sized e q =
             record { links = q; few = omega (arith, limits b (sym k) .1); bytes = omega (arith, links-within b (sym g)) }
+
+-- no file is refused by 17: what it does not say has its default
+pub file-swaps : (b : List ℕ) → badSwaps (sizesOf b .options) ≡ false
+unfolding sizesOf badSwaps badListLength
+file-swaps b = refl
 
 -- ---- what the check's 0 is worth
 

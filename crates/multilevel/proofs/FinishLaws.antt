@@ -14,7 +14,7 @@ use Rattle.links.specs.declared.options.AbtmMultilevelStats.{AbtmMultilevelStat
 use Rattle.stages.specs.Moves.{after}
 use Rattle.multilevel.specs.declared.driver.Answer.the-variants.{Divided, Refused}
 use Rattle.multilevel.specs.Causes.{Call, needOf, earlyCause}
-use Rattle.multilevel.specs.Division.{Outcome, refused, divided, Trace, solve, statsOf, swapPasses, abtmMultilevelPartition, division}
+use Rattle.multilevel.specs.Division.{Outcome, refused, divided, Trace, solve, statsOf, swappingOf, abtmMultilevelPartition, division}
 use Rattle.multilevel.specs.Demand3.{siteRows, balanceOf, keptSteps}
 use Rattle.multilevel.specs.Driver.{solved, finestSwaps, stepCount, statsSoFar, Told}
 use Rattle.multilevel.specs.Contract.{answerOf, answerNumber, answerStats, outcomeNumber, outcomeStats, ownersAfter, workAfter, Partitioned}
@@ -35,14 +35,14 @@ module _ (c : Call) (z : earlyCause c ≡ 0) where
   passes = c .options .«refinement_passes»
 
   abbrev whole : Trace
-  whole = solve (balanceOf c) passes (swapPasses passes) rows weights (keptSteps c)
+  whole = solve (balanceOf c) passes (swappingOf (c .options)) rows weights (keptSteps c)
 
   outcome-is : division c .outcome ≡ cond (eqb (whole .refusal) 0) (divided (whole .owners) (statsOf rows (c .ranks) (keptSteps c) whole)) (refused (whole .refusal))
   unfolding division abtmMultilevelPartition
   outcome-is = rw (eq-eqb (earlyCause c) 0 z)
 
-  swaps-last : Swapped (balanceOf c) passes rows weights (swapPasses passes) whole (solved (balanceOf c) passes rows weights (keptSteps c))
-  swaps-last = solve-swapped (balanceOf c) passes rows weights (swapPasses passes) (keptSteps c)
+  swaps-last : Swapped (balanceOf c) passes rows weights (swappingOf (c .options)) whole (solved (balanceOf c) passes rows weights (keptSteps c))
+  swaps-last = solve-swapped (balanceOf c) passes rows weights (swappingOf (c .options)) (keptSteps c)
 
   pub finish-refused
       : (left : ℕ) (o : List ℕ) (number : ℕ)
@@ -57,8 +57,8 @@ module _ (c : Call) (z : earlyCause c ≡ 0) where
       : (left : ℕ) (o o′ : List ℕ) (s : AbtmMultilevelStats) (m cut vol : ℕ)
       → Told (balanceOf c) passes rows weights (keptSteps c) left o (Divided s)
       → left ≤ 32
-      → o′ ≡ foldl after o (finestSwaps (balanceOf c) (swapPasses passes) rows weights (solved (balanceOf c) passes rows weights (keptSteps c)))
-      → m ≡ length (finestSwaps (balanceOf c) (swapPasses passes) rows weights (solved (balanceOf c) passes rows weights (keptSteps c)))
+      → o′ ≡ foldl after o (finestSwaps (balanceOf c) (swappingOf (c .options)) rows weights (solved (balanceOf c) passes rows weights (keptSteps c)))
+      → m ≡ length (finestSwaps (balanceOf c) (swappingOf (c .options)) rows weights (solved (balanceOf c) passes rows weights (keptSteps c)))
       → m ≤ 131072
       → cut ≡ cutEntries rows o′
       → vol ≡ volume rows o′ (c .ranks)
@@ -68,7 +68,7 @@ module _ (c : Call) (z : earlyCause c ≡ 0) where
       let r = divided-of (t .refusal) (statsSoFar rows (keptSteps c) t) s (k .answer-is) in
       let w = swaps-last in
       let small = k .small (r .0) in
-      let owners : whole .owners ≡ o′ = w .owners-are (r .0) ∙ ap (λ (x : List ℕ). foldl after x (finestSwaps (balanceOf c) (swapPasses passes) rows weights t)) (sym (k .owners-are (r .0))) ∙ sym eo in
+      let owners : whole .owners ≡ o′ = w .owners-are (r .0) ∙ ap (λ (x : List ℕ). foldl after x (finestSwaps (balanceOf c) (swappingOf (c .options)) rows weights t)) (sym (k .owners-are (r .0))) ∙ sym eo in
       let count : stepCount (whole .levels) ≡ stepCount (t .levels) + m = w .count-is (r .0) ∙ ap (λ (x : ℕ). stepCount (t .levels) + x) (sym em) in
       let so-far : statsSoFar rows (keptSteps c) whole ≡ addedMoves s m =
       stats-swapped rows (keptSteps c) whole t m (w .growth-is) count (omega (arith, small .steps)) ∙ ap (λ (x : AbtmMultilevelStats). addedMoves x m) (sym (r .1)) in

@@ -20,8 +20,9 @@ use Rattle.stages.specs.Seeds.{farthestSeeds}
 use Rattle.stages.specs.Growth.{Growth, weightedMultisource, grown}
 use Rattle.stages.specs.Moves.{after, repeat, destination, refineByCut}
 use Rattle.stages.specs.Swaps.{refineFinePairSwaps}
+use Rattle.stages.specs.declared.swaps.Swapping.{Swapping}
 use Rattle.multilevel.specs.Causes.{Call, earlyCause}
-use Rattle.multilevel.specs.Division.{Trace, refused, stopped, coarsenings, takeOver, swapPasses, refine, grow, solve, division}
+use Rattle.multilevel.specs.Division.{Trace, refused, stopped, coarsenings, takeOver, swappingOf, noSwapping, refine, grow, solve, division}
 use Rattle.multilevel.specs.Demand3.{siteRows, balanceOf, passesOf, keptSteps, Early}
 use Rattle.links.proofs.ListLaws.{split}
 use Rattle.links.proofs.RowLaws.{length-rows}
@@ -82,16 +83,16 @@ module _ (b : Balance) (passes : ℕ) (few-ranks : b .ranks < unassigned) (narro
 
     -- so the check after them does not answer 9
     refine-9
-        : (swapping : ℕ) (group : List ℕ) (t : Trace)
+        : (swapping : Swapping) (group : List ℕ) (t : Trace)
         → Peopled (b .ranks) ws (movedFrom (t .owners))
         → refine b passes swapping rows ws group t .refusal ≢ 9
     unfolding refine
     refine-9 swapping group t p = check-peopled (b .ranks) ws (movedFrom (t .owners)) p
 
     -- without passes for swaps it ends as its moves leave it
-    unswapped : (group : List ℕ) (t : Trace) → refine b passes 0 rows ws group t .owners ≡ movedFrom (t .owners)
+    unswapped : (group : List ℕ) (t : Trace) → refine b passes noSwapping rows ws group t .owners ≡ movedFrom (t .owners)
     unfolding refine refineFinePairSwaps repeat
-    unswapped group t = go (eqb (refine b passes 0 rows ws group t .refusal) 0)
+    unswapped group t = go (eqb (refine b passes noSwapping rows ws group t .refusal) 0)
       where
         go : (x : Bool) → foldl after (movedFrom (t .owners)) (cond x [] []) ≡ movedFrom (t .owners)
         go true = refl
@@ -101,10 +102,10 @@ module _ (b : Balance) (passes : ℕ) (few-ranks : b .ranks < unassigned) (narro
         : (group : List ℕ) (t : Trace)
         → length (t .owners) ≡ length rows
         → Peopled (b .ranks) ws (movedFrom (t .owners))
-        → Occupied rows ws (refine b passes 0 rows ws group t)
+        → Occupied rows ws (refine b passes noSwapping rows ws group t)
     refine-occupied group t n p =
         record {
-          not-9 = refine-9 0 group t p;
+          not-9 = refine-9 noSwapping group t p;
           sized = λ z. ap length (unswapped group t) ∙ length-steps (refineByCut b rows ws passes (t .owners) .steps) (t .owners) ∙ n;
           peopled = λ z. subst (Peopled (b .ranks) ws) (sym (unswapped group t)) p;
         }
@@ -143,7 +144,7 @@ module _ (b : Balance) (passes : ℕ) (few-ranks : b .ranks < unassigned) (narro
           moved-peopled (t .owners) n (k .peopled z)
           (⊎-elim inl (λ h. inr (heavy-stays b (h .0) rows s ws weighed some-weight (t .owners) n (h .1))) settled)
 
-      coarsest-occupied : Occupied rows ws (solve b passes 0 rows ws [])
+      coarsest-occupied : Occupied rows ws (solve b passes noSwapping rows ws [])
       unfolding solve
       coarsest-occupied =
           let t = grow b passes rows ws in
@@ -152,7 +153,7 @@ module _ (b : Balance) (passes : ℕ) (few-ranks : b .ranks < unassigned) (narro
           (λ q. let z = eqb-true (t .refusal) 0 q in rw q (refine-occupied [] t (k .sized z) (coarsest-peopled z)))
           (λ q. rw q k)
 
-      coarsest-9 : (swapping : ℕ) → solve b passes swapping rows ws [] .refusal ≢ 9
+      coarsest-9 : (swapping : Swapping) → solve b passes swapping rows ws [] .refusal ≢ 9
       unfolding solve
       coarsest-9 swapping =
           let t = grow b passes rows ws in
@@ -164,12 +165,12 @@ module _ (b : Balance) (passes : ℕ) (few-ranks : b .ranks < unassigned) (narro
   module _
       (rows : List (List ℕ)) (s : Sound rows) (ws : List ℕ) (small : length rows < unassigned)
       (weighed : length ws ≡ length rows) (some-weight : Weighty ws) (cs : List Coarse)
-      (below : (let c = coarsenOnce rows ws in Occupied (c .rows) (c .weights) (solve b passes 0 (c .rows) (c .weights) cs))) where
+      (below : (let c = coarsenOnce rows ws in Occupied (c .rows) (c .weights) (solve b passes noSwapping (c .rows) (c .weights) cs))) where
     abbrev coarse : Coarse
     coarse = coarsenOnce rows ws
 
     abbrev lower : Trace
-    lower = solve b passes 0 (coarse .rows) (coarse .weights) cs
+    lower = solve b passes noSwapping (coarse .rows) (coarse .weights) cs
 
     -- the owners taken over
     abbrev taken : List ℕ
@@ -190,7 +191,7 @@ module _ (b : Balance) (passes : ℕ) (few-ranks : b .ranks < unassigned) (narro
         (λ v u h j e. owner v h ∙ ap (at (lower .owners)) e ∙ sym (owner u j)) in
         moved-peopled rows ws weighed taken length-taken start (⊎-elim inl (λ k. inr (stays k)) narrow)
 
-    finer-occupied : Occupied rows ws (solve b passes 0 rows ws (coarse ∷ cs))
+    finer-occupied : Occupied rows ws (solve b passes noSwapping rows ws (coarse ∷ cs))
     unfolding solve
     finer-occupied = split (eqb (lower .refusal) 0)
         (λ q.
@@ -202,7 +203,7 @@ module _ (b : Balance) (passes : ℕ) (few-ranks : b .ranks < unassigned) (narro
           peopled = λ z. absurd (eqb-false (lower .refusal) 0 q z);
         }))
 
-    finest-9 : (swapping : ℕ) → solve b passes swapping rows ws (coarse ∷ cs) .refusal ≢ 9
+    finest-9 : (swapping : Swapping) → solve b passes swapping rows ws (coarse ∷ cs) .refusal ≢ 9
     unfolding solve
     finest-9 swapping = split (eqb (lower .refusal) 0)
         (λ q.
@@ -230,7 +231,7 @@ module _ (b : Balance) (passes : ℕ) (few-ranks : b .ranks < unassigned) (narro
       → length ws ≡ length rows
       → Weighty ws
       → Settled rows ws
-      → Occupied rows ws (solve b passes 0 rows ws (coarsenings l stop rows ws))
+      → Occupied rows ws (solve b passes noSwapping rows ws (coarsenings l stop rows ws))
   unfolding coarsenings
   settled-occupied zero stop rows ws s n w some-weight settled = coarsest-occupied rows ws w s some-weight settled
   settled-occupied (suc l) stop rows ws s n w some-weight settled =
@@ -251,7 +252,7 @@ module _ (b : Balance) (passes : ℕ) (few-ranks : b .ranks < unassigned) (narro
   Told-9 kept = (kept ≡ []) × (b .floor ≡ 0)
 
   solve-9
-      : (l stop swapping : ℕ) (rows : List (List ℕ)) (ws : List ℕ)
+      : (l stop : ℕ) (swapping : Swapping) (rows : List (List ℕ)) (ws : List ℕ)
       → Sound rows
       → length rows < unassigned
       → length ws ≡ length rows
@@ -292,7 +293,7 @@ nine-needs c e = ⊎-elim
     let t = c .options .«imbalance_per_mille» in
     let narrow = floor-or-cap (sum (c .workloads)) (c .ranks) t (g .some-ranks) (g .few-ranks) (g .tolerance) in
     solve-9 (balanceOf c) (passesOf c) (omega (arith, g .few-ranks)) narrow (c .options .«max_levels») (stopSize (c .options) (c .ranks))
-    (swapPasses (passesOf c)) rows (c .workloads) (g .lists .sound) (omega (arith, g .few-vertices)) (g .workloads .sized ∙ sym n)
+    (swappingOf (c .options)) rows (c .workloads) (g .lists .sound) (omega (arith, g .few-vertices)) (g .workloads .sized ∙ sym n)
     (g .workloads .some) (z .1))
     (refused-by c 9 e)
 

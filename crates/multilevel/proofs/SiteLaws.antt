@@ -5,7 +5,7 @@ use Rattle.links.specs.Loads.{share, loadCap, minimumLoad, balance}
 use Rattle.links.specs.Graph.{neighborsCause, neighborsOf, rowsOf, badOffsets, goodRow, badLists, linksIn, load, owned, cutEntries, foreignNeighbors, volume}
 use Rattle.links.specs.Owners.{badRanks, tooMany, strayOwner, emptyRank, fromOwners}
 use Rattle.links.specs.Workloads.{badWorkload, badWorkloads}
-use Rattle.links.specs.Options.{badOptions, stopSize}
+use Rattle.links.specs.Options.{badOptions, badListLength, badSwaps, stopSize}
 use Rattle.stages.specs.Coarsen.{byDegree, shared, closer, partner, grouped, match, unmatched, pairing, coarseRow, coarsenOnce}
 use Rattle.stages.specs.Seeds.{spread, spreadFrom, distances, farther, nextSeed, farthestSeeds}
 use Rattle.stages.specs.Growth.{fits, afterChoice, pop, restart, claimed, chosen, turn, round, rounds, seedOwners, seeded, weightedMultisource, grown, restartCount}
@@ -19,7 +19,7 @@ use Rattle.multilevel.specs.Sites.{swapsOn, found, stated, byHand, early
 pub by-hand : (map found byHand ≡ map stated byHand) × (map found early ≡ map stated early)
 unfolding byHand early swapsOn
     share loadCap minimumLoad balance neighborsCause neighborsOf rowsOf badOffsets goodRow badLists linksIn load owned cutEntries foreignNeighbors volume
-    badRanks tooMany strayOwner emptyRank fromOwners badOptions stopSize
+    badRanks tooMany strayOwner emptyRank fromOwners badOptions badListLength badSwaps stopSize
     byDegree shared closer partner grouped match unmatched pairing coarseRow coarsenOnce
     spread spreadFrom distances farther nextSeed farthestSeeds
     fits afterChoice pop restart claimed chosen turn round rounds seedOwners seeded weightedMultisource grown restartCount

@@ -19,7 +19,7 @@ use Rattle.stages.specs.Seeds.{farthestSeeds}
 use Rattle.stages.specs.Growth.{Growth, weightedMultisource, grown, restartCount}
 use Rattle.stages.proofs.RankLaws.{checked-ranked}
 use Rattle.multilevel.specs.declared.driver.Answer.the-variants.{Divided, Refused}
-use Rattle.multilevel.specs.Division.{Trace, refine, grow, takeOver}
+use Rattle.multilevel.specs.Division.{Trace, refine, grow, takeOver, noSwapping}
 use Rattle.multilevel.specs.Driver.{solved, movesFrom, movedFrom, stepCount, statsSoFar, answerFor, Told}
 use Rattle.multilevel.proofs.DriverLaws.{refine-refusal, refine-growth, refine-owners, refine-count, onward, solved-coarsest, solved-finer, onward-refused, onward-moves, stats-coarsest, stats-finer, count-none}
 
@@ -104,11 +104,11 @@ module _ (b : Balance) (passes : ℕ) (rows : List (List ℕ)) (ws : List ℕ) (
       }
 
   module _ (t : Trace) (group : List ℕ) (s : Trace) (e : solved b passes rows ws cs ≡ onward b passes rows ws group t s) (z : t .refusal ≡ 0) where
-    is-refined : solved b passes rows ws cs ≡ refine b passes 0 rows ws group s
+    is-refined : solved b passes rows ws cs ≡ refine b passes noSwapping rows ws group s
     is-refined = e ∙ onward-moves b passes rows ws group t s z
 
     refusal-is : solved b passes rows ws cs .refusal ≡ fromOwners (b .ranks) (movedFrom b passes rows ws (s .owners))
-    refusal-is = ap (λ (x : Trace). x .refusal) is-refined ∙ refine-refusal b passes rows ws group s 0
+    refusal-is = ap (λ (x : Trace). x .refusal) is-refined ∙ refine-refusal b passes rows ws group s noSwapping
 
     -- refused by its check
     pub told-check
@@ -135,7 +135,7 @@ module _ (b : Balance) (passes : ℕ) (rows : List (List ℕ)) (ws : List ℕ) (
         record {
           zero-is = refusal-is ∙ y;
           owners-are = ap (λ (x : Trace). x .owners) is-refined ∙ refine-owners b passes rows ws group s y;
-          growth-is = ap (λ (x : Trace). x .growth) is-refined ∙ refine-growth b passes rows ws group s 0;
+          growth-is = ap (λ (x : Trace). x .growth) is-refined ∙ refine-growth b passes rows ws group s noSwapping;
           count-is = ap (λ (x : Trace). stepCount (x .levels)) is-refined ∙ refine-count b passes rows ws group s y;
         }
 
@@ -254,7 +254,7 @@ onward-checked
 onward-checked b passes rows ws group t s z e =
     let same = onward-moves b passes rows ws group t s e in
     let y : fromOwners (b .ranks) (movedFrom b passes rows ws (s .owners)) ≡ 0 =
-    sym (refine-refusal b passes rows ws group s 0) ∙ sym (ap (λ (x : Trace). x .refusal) same) ∙ z in
+    sym (refine-refusal b passes rows ws group s noSwapping) ∙ sym (ap (λ (x : Trace). x .refusal) same) ∙ z in
     ap (λ (x : Trace). fromOwners (b .ranks) (x .owners)) same ∙ ap (fromOwners (b .ranks)) (refine-owners b passes rows ws group s y) ∙ y
 
 -- a refusal so far would have stayed

@@ -1,4 +1,4 @@
--- What a division is handed, and the causes that it tests before its work, each by name: 1 to 5 of 01's table, and 02's 13. Assumes nothing.
+-- What a division is handed, and the causes that it tests before its work, each by name: 1 to 5 of 01's table, and 02's 13 and 17. Assumes nothing.
 use Prim.Native.Nat.{ℕ, _+_, _*_, _≤_}
 use mathlib.Core.Bool.{Bool, _||_, cond}
 use mathlib.Core.List.{List}
@@ -6,7 +6,7 @@ use lib.ListN.{length}
 use lib.Dec.{ltb, eqb}
 use Rattle.links.specs.Graph.{vertexCount, badLists}
 use Rattle.links.specs.Workloads.{badWorkloads}
-use Rattle.links.specs.Options.{badOptions}
+use Rattle.links.specs.Options.{badOptions, badSwaps}
 use Rattle.links.specs.declared.options.AbtmMultilevelOptions.{AbtmMultilevelOptions}
 
 -- the lists, each vertex's workload, the number of ranks, the options, and how long the lent owner and work slices are
@@ -50,9 +50,9 @@ pub record Limited (n m k levels : ℕ) : Type 0 where
   pub few-ranks : k ≤ 256
   pub few-levels : levels ≤ 32
 
--- "a division tests in table order", and 13 "after 4 and before 5": the number of the first cause that holds, 0 if none
-abbrev pub firstOf : Bool → Bool → Bool → Bool → Bool → Bool → ℕ
-firstOf c1 c2 c3 c4 c13 c5 = cond c1 1 (cond c2 2 (cond c3 3 (cond c4 4 (cond c13 13 (cond c5 5 0)))))
+-- "a division tests in table order", 13 "after 4 and before 5", 17 "after 1 and before 2": the number of the first cause that holds, 0 if none
+abbrev pub firstOf : Bool → Bool → Bool → Bool → Bool → Bool → Bool → ℕ
+firstOf c1 c17 c2 c3 c4 c13 c5 = cond c1 1 (cond c17 17 (cond c2 2 (cond c3 3 (cond c4 4 (cond c13 13 (cond c5 5 0))))))
 
 -- the numbers that a call's work needs
 abbrev pub needOf : Call → ℕ
@@ -67,6 +67,7 @@ earlyCause c =
     let n = vertexCount (c .offsets) in
     firstOf
     (badOptions (c .options))
+    (badSwaps (c .options))
     (badCounts n (c .ranks))
     (overLimits n (length (c .neighbors)) (c .ranks) (c .options .«max_levels»))
     (badLists (c .offsets) (c .neighbors))

@@ -18,7 +18,7 @@ use Rattle.stages.specs.Growth.{Turn, passes, Growth, weightedMultisource, grow
 use Rattle.stages.specs.Moves.{Step, move, after, gain, refineByCut}
 use Rattle.stages.specs.Swaps.{refineFinePairSwaps}
 use Rattle.multilevel.specs.Causes.{Call}
-use Rattle.multilevel.specs.Division.{Run, Level, Outcome, refused, divided, noGrowth, coarsenings, listLength, swapPasses, stepsOf}
+use Rattle.multilevel.specs.Division.{Run, Level, Outcome, refused, divided, noGrowth, coarsenings, swappingOf, stepsOf}
 
 -- ---- what a call gives: the site's rows, its balance, its passes, and the coarsening steps kept
 
@@ -73,7 +73,8 @@ growthOn b rows weights (c ∷ cs) = growthOn b (c .rows) (c .weights) cs
 -- on a level that another follows, and none in a division that is refused
 abbrev pub swapsDue : Call → Outcome → List Level → Level → List Step
 swapsDue c (divided owners s) [] l =
-    refineFinePairSwaps (balanceOf c) (l .rows) (l .weights) listLength (swapPasses (passesOf c)) (moved l) .steps
+    let q = swappingOf (c .options) in
+    refineFinePairSwaps (balanceOf c) (l .rows) (l .weights) (q .«list_length») (q .passes) (moved l) .steps
 swapsDue c (divided owners s) (m ∷ finer) l = []
 swapsDue c (refused number) finer l = []
 
@@ -137,7 +138,7 @@ pub record FairShares (c : Call) (levels : List Level) (owners : List ℕ) (s : 
 
 -- the refusals that come before growth, in the order of their tests; one that is added later and comes before growth stands here too
 abbrev pub earlyNumbers : List ℕ
-earlyNumbers = 1 ∷ 2 ∷ 3 ∷ 4 ∷ 13 ∷ 5 ∷ 6 ∷ 7 ∷ []
+earlyNumbers = 1 ∷ 17 ∷ 2 ∷ 3 ∷ 4 ∷ 13 ∷ 5 ∷ 6 ∷ 7 ∷ []
 
 abbrev pub Early : ℕ → Type 0
 Early number = elem number earlyNumbers ≡ true

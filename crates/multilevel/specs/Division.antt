@@ -16,6 +16,7 @@ use Rattle.stages.specs.Seeds.{farthestSeeds}
 use Rattle.stages.specs.Growth.{Growth, weightedMultisource, grown, restartCount}
 use Rattle.stages.specs.Moves.{Step, after, refineByCut}
 use Rattle.stages.specs.Swaps.{refineFinePairSwaps}
+use Rattle.stages.specs.declared.swaps.Swapping.{Swapping}
 use Rattle.multilevel.specs.Causes.{Call, earlyCause}
 
 -- how a division ends: "zero stats" and the number; or the owners written, and the stats
@@ -76,24 +77,22 @@ coarsestRows rows (c ∷ cs) = coarsestRows (c .rows) cs
 abbrev pub takeOver : List ℕ → Trace → Trace
 takeOver group t = record { growth = t .growth; levels = t .levels; refusal = t .refusal; owners = map (at (t .owners)) group }
 
--- rule 7's numbers: "first 8", and "up to 4 × refinement_passes (saturating)"
-abbrev pub listLength : ℕ
-listLength = 8
+-- rule 7's numbers: "first 8", the list length, and "up to 4 × refinement_passes (saturating)", where the 4 is the pass factor; "both become options"
+abbrev pub swappingOf : AbtmMultilevelOptions → Swapping
+swappingOf o = record { «list_length» = o .«swap_list_length»; passes = saturating (o .«swap_pass_factor» * o .«refinement_passes») }
 
-abbrev pub passFactor : ℕ
-passFactor = 4
-
-abbrev pub swapPasses : ℕ → ℕ
-swapPasses passes = saturating (passFactor * passes)
+-- no swaps, as on all levels but the finest
+abbrev pub noSwapping : Swapping
+noSwapping = record { «list_length» = 0; passes = 0 }
 
 module _ (b : Balance) (passes : ℕ) where
   -- a level "makes its moves", "then the `from_owners` check"; then its swaps, for which the "finest level only" has passes
-  unfoldable pub refine : ℕ → List (List ℕ) → List ℕ → List ℕ → Trace → Trace
+  unfoldable pub refine : Swapping → List (List ℕ) → List ℕ → List ℕ → Trace → Trace
   refine swapping rows weights group t =
       let m = refineByCut b rows weights passes (t .owners) in
       let moved = foldl after (t .owners) (m .steps) in
       let refusal = fromOwners (b .ranks) moved in
-      let made = (refineFinePairSwaps b rows weights listLength swapping moved) .steps in
+      let made = (refineFinePairSwaps b rows weights (swapping .«list_length») (swapping .passes) moved) .steps in
       let swaps = cond (eqb refusal 0) made [] in
       let level : Level =
       record { rows = rows; weights = weights; group = group; start = t .owners; moves = m .steps; settled = m .settled; swaps = swaps } in
@@ -108,13 +107,13 @@ module _ (b : Balance) (passes : ℕ) where
       cond (any (ltb (b .cap)) weights) (stopped 6) (cond (ltb (length rows) (b .ranks)) (stopped 7) run)
 
   -- "growth and moves on the coarsest level; each finer level in turn takes over its groups' owners and makes its moves; swaps come last"
-  unfoldable pub solve : ℕ → List (List ℕ) → List ℕ → List Coarse → Trace
+  unfoldable pub solve : Swapping → List (List ℕ) → List ℕ → List Coarse → Trace
   solve swapping rows weights [] =
       let t = grow rows weights in
       let on = refine swapping rows weights [] t in
       cond (eqb (t .refusal) 0) on t
   solve swapping rows weights (c ∷ cs) =
-      let t = solve 0 (c .rows) (c .weights) cs in
+      let t = solve noSwapping (c .rows) (c .weights) cs in
       let on = refine swapping rows weights (c .group) (takeOver (c .group) t) in
       cond (eqb (t .refusal) 0) on t
 
@@ -145,7 +144,7 @@ unfoldable pub abtmMultilevelPartition : AbtmMultilevelOptions → List (List �
 abtmMultilevelPartition o rows weights k =
     let cs = coarsenings (o .«max_levels») (stopSize o k) rows weights in
     let b = balance (sum weights) k (o .«imbalance_per_mille») in
-    let t = solve b (o .«refinement_passes») (swapPasses (o .«refinement_passes»)) rows weights cs in
+    let t = solve b (o .«refinement_passes») (swappingOf o) rows weights cs in
     let done = divided (t .owners) (statsOf rows k cs t) in
     record { growth = t .growth; levels = t .levels; outcome = cond (eqb (t .refusal) 0) done (refused (t .refusal)) }
 

@@ -12,13 +12,14 @@ use Rattle.stages.specs.Coarsen.{Coarse}
 use Rattle.stages.specs.Growth.{restartCount}
 use Rattle.stages.specs.Moves.{Step, after, refineByCut}
 use Rattle.stages.specs.Swaps.{refineFinePairSwaps}
+use Rattle.stages.specs.declared.swaps.Swapping.{Swapping}
 use Rattle.multilevel.specs.declared.driver.Answer.{Answer}
 use Rattle.multilevel.specs.declared.driver.Answer.the-variants.{Divided, Refused}
-use Rattle.multilevel.specs.Division.{Level, Trace, solve, stepsOf, coarsestRows, listLength}
+use Rattle.multilevel.specs.Division.{Level, Trace, solve, stepsOf, coarsestRows, noSwapping}
 
 -- a level and those coarser than it, before any swap
 unfoldable pub solved : Balance → ℕ → List (List ℕ) → List ℕ → List Coarse → Trace
-solved b passes rows weights cs = solve b passes 0 rows weights cs
+solved b passes rows weights cs = solve b passes noSwapping rows weights cs
 
 -- the moves of a level from these owners, and the owners that they leave
 unfoldable pub movesFrom : Balance → ℕ → List (List ℕ) → List ℕ → List ℕ → List Step
@@ -28,8 +29,8 @@ unfoldable pub movedFrom : Balance → ℕ → List (List ℕ) → List ℕ → 
 movedFrom b passes rows weights owners = foldl after owners (movesFrom b passes rows weights owners)
 
 -- the swaps of the finest level, on the owners that its moves left
-unfoldable pub finestSwaps : Balance → ℕ → List (List ℕ) → List ℕ → Trace → List Step
-finestSwaps b swapping rows weights t = refineFinePairSwaps b rows weights listLength swapping (t .owners) .steps
+unfoldable pub finestSwaps : Balance → Swapping → List (List ℕ) → List ℕ → Trace → List Step
+finestSwaps b swapping rows weights t = refineFinePairSwaps b rows weights (swapping .«list_length») (swapping .passes) (t .owners) .steps
 
 unfoldable pub stepCount : List Level → ℕ
 stepCount levels = sum (map (λ l. length (stepsOf l)) levels)

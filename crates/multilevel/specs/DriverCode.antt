@@ -19,7 +19,7 @@ use Rattle.stages.specs.declared.level.HierarchyLevel.{HierarchyLevel}
 use Rattle.multilevel.specs.declared.driver.Answer.{Answer}
 use Rattle.multilevel.specs.declared.driver.Rules.{Rules}
 use Rattle.multilevel.specs.Causes.{Call, needOf, earlyCause}
-use Rattle.multilevel.specs.Division.{coarsenings, swapPasses, division}
+use Rattle.multilevel.specs.Division.{coarsenings, swappingOf, division}
 use Rattle.multilevel.specs.Room.{unitOf, levelAt}
 use Rattle.multilevel.specs.Contract.{answerOf, ownersAfter}
 use Rattle.multilevel.specs.Driver.{movesFrom, movedFrom, answerFor, Told}
@@ -66,6 +66,7 @@ rulesWith n m total k options =
     record {
       limits = record { ranks = k; floor = minimumLoad total k (options .«imbalance_per_mille»); cap = loadCap total k (options .«imbalance_per_mille») };
       passes = options .«refinement_passes»;
+      swapping = swappingOf options;
       stop = stopSize options k;
       unit = unitOf n m;
       scratch = (options .«max_levels» + 1) * unitOf n m;
@@ -95,16 +96,18 @@ pub record Finishing (w : List ℕ) (l : HierarchyLevel) (q : Rules) (lists : �
   pub ready : Ready w l (q .scratch)
   pub room : q .scratch + l .vertices + 2 * q .limits .ranks ≤ lists
   pub lists-in : lists + 24 * (q .limits .ranks * q .limits .ranks) ≤ length w
+  pub some-listed : 1 ≤ q .swapping .«list_length»
+  pub few-listed : q .swapping .«list_length» ≤ 12
   pub few-ranks : q .limits .ranks ≤ 256
   pub ranked : Ranked w l (q .limits .ranks)
 
 -- its swaps are made, and it is measured
 pub record LevelFinished (w w′ : List ℕ) (l : HierarchyLevel) (q : Rules) (s r : AbtmMultilevelStats) : Type 0 where
-  pub owners-are : ownersAt w′ l ≡ foldl after (ownersAt w l) (swapsAt w l (q .limits) (swapPasses (q .passes)))
-  pub few : length (swapsAt w l (q .limits) (swapPasses (q .passes))) ≤ 131072
+  pub owners-are : ownersAt w′ l ≡ foldl after (ownersAt w l) (swapsAt w l (q .limits) (q .swapping))
+  pub few : length (swapsAt w l (q .limits) (q .swapping)) ≤ 131072
   pub stats-are
       : r
-      ≡ measuredStats (addedMoves s (length (swapsAt w l (q .limits) (swapPasses (q .passes)))))
+      ≡ measuredStats (addedMoves s (length (swapsAt w l (q .limits) (q .swapping))))
       (cutEntries (rowsAt w l) (ownersAt w′ l))
       (volume (rowsAt w l) (ownersAt w′ l) (q .limits .ranks))
   pub same-length : length w′ ≡ length w

@@ -7,6 +7,7 @@ use lib.ListN.{length, drop, replicate}
 use lib.Seq.{sets}
 use lib.Dec.{ltb, eqb}
 use Rattle.links.specs.Lists.{at, filter, any, all, range, concatMap, above}
+use Rattle.links.specs.Options.{defaultListLength, defaultPassFactor}
 use Rattle.links.specs.Graph.{rowsOf, offsetsFrom, packed, SoundLists}
 use Rattle.links.specs.Workloads.{badWorkloads, workloadsCause}
 use Rattle.multilevel.specs.declared.file.Sizes.{Sizes}
@@ -17,7 +18,7 @@ use Rattle.multilevel.specs.declared.file.Read.the-variants.{Site, Refus
 unfoldable pub number : List ℕ → ℕ → ℕ
 number b i = at b (4 * i) + 256 * at b (4 * i + 1) + 65536 * at b (4 * i + 2) + 16777216 * at b (4 * i + 3)
 
--- "n, e, k, max_levels, coarse_vertices_per_rank, t, refinement_passes"
+-- "n, e, k, max_levels, coarse_vertices_per_rank, t, refinement_passes"; "in the link file both keep their defaults"
 unfoldable pub sizesOf : List ℕ → Sizes
 sizesOf b =
     record {
@@ -30,6 +31,8 @@ sizesOf b =
             «coarse_vertices_per_rank» = number b 4;
             «imbalance_per_mille» = number b 5;
             «refinement_passes» = number b 6;
+            «swap_list_length» = defaultListLength;
+            «swap_pass_factor» = defaultPassFactor;
           };
     }
 
@@ -115,7 +118,7 @@ zeroSizes =
       vertices = 0;
       links = 0;
       ranks = 0;
-      options = record { «max_levels» = 0; «coarse_vertices_per_rank» = 0; «imbalance_per_mille» = 0; «refinement_passes» = 0 };
+      options = record { «max_levels» = 0; «coarse_vertices_per_rank» = 0; «imbalance_per_mille» = 0; «refinement_passes» = 0; «swap_list_length» = 0; «swap_pass_factor» = 0 };
     }
 
 -- document 01's number and sizes of each answer

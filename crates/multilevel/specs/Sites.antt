@@ -1,17 +1,18 @@
 -- The sites by hand of 01, some for requests of 02, and the causes that come before the work, as two tables of claims. proofs/SiteLaws.antt proves
 -- each table by computation. Assumes nothing.
-use Prim.Native.Nat.{ℕ, _+_, _-_}
+use Prim.Native.Nat.{ℕ, _+_, _-_, _*_}
 use mathlib.Core.Bool.{_&&_, _||_}
 use mathlib.Core.List.{List, [], _∷_, map}
 use lib.ListN.{length, replicate}
 use lib.Dec.{eqb}
 use Rattle.links.specs.Lists.{filter, any, foldl, range, sum, concatMap}
-use Rattle.links.specs.Loads.{balance}
+use Rattle.links.specs.Loads.{balance, saturating}
+use Rattle.links.specs.Options.{defaultListLength, defaultPassFactor}
 use Rattle.links.specs.declared.options.AbtmMultilevelStats.{AbtmMultilevelStats}
 use Rattle.stages.specs.Moves.{Step, after}
 use Rattle.stages.specs.Swaps.{refineFinePairSwaps}
 use Rattle.multilevel.specs.Causes.{Call, workNeed}
-use Rattle.multilevel.specs.Division.{Outcome, refused, divided, division, listLength, swapPasses}
+use Rattle.multilevel.specs.Division.{Outcome, refused, divided, division}
 
 -- n vertices and their links
 pub record Site : Type 0 where
@@ -45,6 +46,8 @@ weighted offsets neighbors workloads k o owners work =
             «coarse_vertices_per_rank» = o .1;
             «imbalance_per_mille» = o .2;
             «refinement_passes» = o .3;
+            «swap_list_length» = defaultListLength;
+            «swap_pass_factor» = defaultPassFactor;
           };
       ownersLength = owners;
       workLength = work;
@@ -69,6 +72,27 @@ laden s workloads k o =
     let neighbors = concatMap (λ r. r) (rowsIn s) in
     weighted (offsetsFrom 0 (rowsIn s)) neighbors workloads k o (s .n) (workNeed (s .n) (length neighbors) k (o .0))
 
+-- a call with another list length and pass factor
+abbrev pub tuned : ℕ → ℕ → Call → Call
+tuned listLength factor c =
+    record {
+      offsets = c .offsets;
+      neighbors = c .neighbors;
+      workloads = c .workloads;
+      ranks = c .ranks;
+      options =
+          record {
+            «max_levels» = c .options .«max_levels»;
+            «coarse_vertices_per_rank» = c .options .«coarse_vertices_per_rank»;
+            «imbalance_per_mille» = c .options .«imbalance_per_mille»;
+            «refinement_passes» = c .options .«refinement_passes»;
+            «swap_list_length» = listLength;
+            «swap_pass_factor» = factor;
+          };
+      ownersLength = c .ownersLength;
+      workLength = c .workLength;
+    }
+
 -- ---- claims
 
 -- what is asked and what comes out
@@ -82,7 +106,7 @@ pub data Claim : Type 0 where
 unfoldable pub swapsOn : Site → ℕ → ℕ → ℕ → List ℕ → List Step
 swapsOn s k t passes owners =
     let weights = ones (length (rowsIn s)) in
-    refineFinePairSwaps (balance (sum weights) k t) (rowsIn s) weights listLength (swapPasses passes) owners .steps
+    refineFinePairSwaps (balance (sum weights) k t) (rowsIn s) weights defaultListLength (saturating (defaultPassFactor * passes)) owners .steps
 
 -- what comes out, and what the claim says
 pub data Answer : Type 0 where
@@ -155,6 +179,14 @@ eight =
           ∷ (5, 7) ∷ [];
     }
 
+-- the path 2-0-1-3, of which a list of 1 pairs only linked ends, and one of 2 pairs others
+abbrev pub turned : Site
+turned = record { n = 4; links = (0, 1) ∷ (0, 2) ∷ (1, 3) ∷ [] }
+
+-- the path of five with a sixth at its middle, where the second pass of swaps has one to make
+abbrev pub leafed : Site
+leafed = record { n = 6; links = (0, 1) ∷ (1, 2) ∷ (2, 3) ∷ (2, 5) ∷ (3, 4) ∷ [] }
+
 -- every case of the list, starred or not; then those of 02
 unfoldable pub byHand : List Claim
 byHand =
@@ -174,9 +206,13 @@ byHand =
     ∷ ends (laden kite (1064 ∷ 8401 ∷ 2172 ∷ 6255 ∷ 4692 ∷ []) 3 (2, 2, 200, 2)) (divided (1 ∷ 2 ∷ 0 ∷ 0 ∷ 1 ∷ []) (stats 0 5 0 0 1 0 8 8))
     ∷ ends (laden highStar (5 ∷ 4 ∷ 3 ∷ 6 ∷ []) 3 (3, 2, 366, 3)) (divided (1 ∷ 2 ∷ 1 ∷ 0 ∷ []) (stats 0 4 0 0 1 0 6 5))
     ∷ ends (site eight 3 (1, 2, 500, 3)) (divided (1 ∷ 1 ∷ 2 ∷ 2 ∷ 1 ∷ 2 ∷ 0 ∷ 1 ∷ []) (stats 1 4 4 0 0 3 20 12))
+    ∷ ends (tuned 1 4 (site turned 2 (12, 64, 30, 2))) (divided (0 ∷ 0 ∷ 1 ∷ 1 ∷ []) (stats 0 4 0 0 1 0 4 4))
+    ∷ ends (tuned 2 4 (site turned 2 (12, 64, 30, 2))) (divided (1 ∷ 0 ∷ 1 ∷ 0 ∷ []) (stats 0 4 0 0 1 1 2 2))
+    ∷ ends (tuned 8 1 (site leafed 3 (12, 64, 30, 1))) (divided (1 ∷ 1 ∷ 0 ∷ 0 ∷ 2 ∷ 2 ∷ []) (stats 0 6 0 0 2 1 6 6))
+    ∷ ends (tuned 8 2 (site leafed 3 (12, 64, 30, 1))) (divided (1 ∷ 1 ∷ 2 ∷ 0 ∷ 0 ∷ 2 ∷ []) (stats 0 6 0 0 2 2 4 4))
     ∷ []
 
--- ---- causes 1 to 5 and 13, each on a call for which later causes hold too
+-- ---- causes 1 to 5, 13 and 17, each on a call for which later causes hold too
 
 -- a link between two vertices; with L = 1 and k = 2 it needs 2 owners and 194 work numbers
 abbrev pub pairOffsets : List ℕ
@@ -193,6 +229,14 @@ early =
     ∷ ends (lent pairOffsets pair 0 (1, 0, 30, 2) 2 194) (refused 1)
     ∷ ends (lent pairOffsets pair 0 (1, 1, 30, 0) 2 194) (refused 1)
     ∷ ends (lent pairOffsets pair 0 (1, 1, 501, 2) 2 194) (refused 1)
+    -- a list length or a factor out of its range, after 1; the ends of both ranges are taken
+    ∷ ends (tuned 13 9 (lent pairOffsets pair 0 (1, 1, 501, 2) 2 194)) (refused 1)
+    ∷ ends (tuned 0 4 (lent pairOffsets pair 0 (33, 1, 30, 2) 2 194)) (refused 17)
+    ∷ ends (tuned 13 4 (lent pairOffsets pair 0 (33, 1, 30, 2) 2 194)) (refused 17)
+    ∷ ends (tuned 8 0 (lent pairOffsets pair 0 (33, 1, 30, 2) 2 194)) (refused 17)
+    ∷ ends (tuned 8 9 (lent pairOffsets pair 0 (33, 1, 30, 2) 2 194)) (refused 17)
+    ∷ ends (tuned 1 1 (lent pairOffsets pair 2 (1, 1, 30, 2) 2 194)) (divided (0 ∷ 1 ∷ []) (stats 0 2 0 0 0 0 2 2))
+    ∷ ends (tuned 12 8 (lent pairOffsets pair 2 (1, 1, 30, 2) 2 194)) (divided (0 ∷ 1 ∷ []) (stats 0 2 0 0 0 0 2 2))
     -- n = 0, k = 0, k > n
     ∷ ends (lent [] pair 1 (33, 1, 30, 2) 2 194) (refused 2)
     ∷ ends (lent pairOffsets pair 0 (33, 1, 30, 2) 2 194) (refused 2)

@@ -1,4 +1,4 @@
-// The causes that a division tests before its work: 1 to 5 of document 01's table, and document 02's 13.
+// The causes that a division tests before its work: 1 to 5 of document 01's table, and document 02's 13 and 17.
 ghost use mathlib.Core.Path.{_≡_};
 ghost use mathlib.Core.Bool.{_||_};
 ghost use lib.Dec.{ltb};
@@ -87,7 +87,7 @@ fn too_short(
     work_length < work_need(n, m, ranks, levels)
 }
 
-// 0, or the first of the causes 1 to 5 and 13 that holds.
+// 0, or the first of the causes 1, 17, 2, 3, 4, 13 and 5 that holds.
 // Rules out: another order than the papers'; work counted before the limits were tested.
 pub(crate) fn early_cause(
     offsets: &[u32],
@@ -100,8 +100,9 @@ pub(crate) fn early_cause(
     ensures { λ r. ⌜ r ≡ earlyCause (callOf (now (offsets .entry)) (now (neighbors .entry)) (now (workloads .entry)) (asked .ranks) (asked .options) «owners_length» «work_length») ⌝ }
 {
     let options = asked.options;
-    if options.validate() != 0 {
-        return 1;
+    let cause = options.validate();
+    if cause != 0 {
+        return cause;
     }
     let n = vertex_count(offsets);
     let m = neighbors.len();

@@ -4,7 +4,7 @@ ghost use Prim.Native.Nat.{_≤_};
 ghost use lib.ListN.{length};
 ghost use Rattle.multilevel.specs.Causes.{Limited, callOf};
 ghost use Rattle.multilevel.specs.Contract.{answerNumber, Partitioned};
-ghost use Rattle.multilevel.specs.Division.{swapPasses};
+ghost use Rattle.multilevel.specs.Division.{swappingOf};
 ghost use Rattle.multilevel.specs.DriverCode.{Placed, Refining, LevelRefined, LevelGrown, LevelSolved, Finishing, LevelFinished, Divisible, SiteDivided, rulesWith};
 use crate::causes::Terms;
 use crate::causes::early_cause;
@@ -30,6 +30,7 @@ use stages::Grown;
 use stages::HierarchyLevel;
 use stages::Limits;
 use stages::Refined;
+use stages::Swapping;
 use stages::coarsen_once_cached;
 use stages::refine_by_cut;
 use stages::refine_fine_pair_swaps;
@@ -54,11 +55,12 @@ impl Answer {
     }
 }
 
-// What a division goes by: the limits of a load, the passes, where coarsening stops; and in the work slice the room of a level and where the stages'
-// own room begins.
+// What a division goes by: the limits of a load, the passes of moves, what the swaps go by, where coarsening stops; and in the work slice the room
+// of a level and where the stages' own room begins.
 pub struct Rules {
     pub limits: Limits,
     pub passes: u64,
+    pub swapping: Swapping,
     pub stop: u64,
     pub unit: usize,
     pub scratch: usize,
@@ -78,6 +80,16 @@ fn refine_level(work: &mut [u32], q: Rules, l: HierarchyLevel, s: AbtmMultilevel
     Answer::Divided(s.added_moves(moves))
 }
 
+// What the swaps go by: the list length, and the pass factor × refinement_passes, saturating.
+fn swapping_of(options: AbtmMultilevelOptions) -> Swapping
+    ensures { λ r. ⌜ r ≡ swappingOf options ⌝ }
+{
+    Swapping {
+        list_length: options.swap_list_length as usize,
+        passes: saturating_mul(options.swap_pass_factor, options.refinement_passes),
+    }
+}
+
 fn rules_of(n: usize, m: usize, total: u64, ranks: u32, options: AbtmMultilevelOptions) -> Rules
     requires { ⌜ Limited n m ranks (options .«max_levels») × (options .«imbalance_per_mille» ≤ 500) ⌝ }
     ensures { λ r. ⌜ r ≡ rulesWith n m total ranks options ⌝ }
@@ -93,17 +105,11 @@ fn rules_of(n: usize, m: usize, total: u64, ranks: u32, options: AbtmMultilevelO
     Rules {
         limits,
         passes: options.refinement_passes,
+        swapping: swapping_of(options),
         stop: options.stop_size(ranks),
         unit,
         scratch: (levels + 1) * unit,
     }
-}
-
-// 4 × refinement_passes, saturating.
-fn swap_passes(passes: u64) -> u64
-    ensures { λ r. ⌜ r ≡ swapPasses passes ⌝ }
-{
-    saturating_mul(4, passes)
 }
 
 // Growth on the coarsest level, and its moves.
@@ -173,7 +179,7 @@ fn finish(
     let scratch = q.scratch;
     let limits = q.limits;
     let ranks = limits.ranks;
-    let swaps = refine_fine_pair_swaps(work, l, scratch, lists, limits, swap_passes(q.passes));
+    let swaps = refine_fine_pair_swaps(work, l, scratch, lists, limits, q.swapping);
     let m = measure_level(work, l, scratch, ranks);
     s.added_moves(swaps).measured(m.cut, m.volume)
 }

@@ -12,6 +12,11 @@ use links::bad_workload;
 use links::index;
 use links::wide;
 
+// The swaps' options, which a file does not say: their defaults.
+const LIST_LENGTH: u64 = 8;
+
+const PASS_FACTOR: u64 = 4;
+
 // What a file says of its site: sizes and options.
 pub struct Sizes {
     pub vertices: u32,
@@ -63,6 +68,8 @@ fn sizes_of(b: &[u8]) -> Sizes
         coarse_vertices_per_rank: wide(number_at(b, 4)),
         imbalance_per_mille: wide(number_at(b, 5)),
         refinement_passes: wide(number_at(b, 6)),
+        swap_list_length: LIST_LENGTH,
+        swap_pass_factor: PASS_FACTOR,
     };
     Sizes {
         vertices: number_at(b, 0),

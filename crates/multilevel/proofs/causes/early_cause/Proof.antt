@@ -5,11 +5,11 @@ use mathlib.Core.Path.{_≡_, refl, sym, ap, _∙_}
 use lib.ListN.{length}
 use Rattle.links.specs.Graph.{vertexCount, badLists}
 use Rattle.links.specs.Workloads.{badWorkloads, workloadsCause}
-use Rattle.links.specs.Options.{badOptions}
+use Rattle.links.specs.Options.{badOptions, badSwaps}
 use Rattle.links.proofs.ListTestLaws.{lists-bad, lists-fine}
 use Rattle.links.proofs.WorkloadLaws.{workloads-bad, workloads-fine}
 use Rattle.multilevel.specs.Causes.{Call, callOf, badCounts, overLimits, firstOf, tooShort, earlyCause}
-use Rattle.multilevel.proofs.CauseLaws.{limited, options-bad, options-fine, counts-as, limits-as, room-as, early-is}
+use Rattle.multilevel.proofs.CauseLaws.{limited, options-fine, counts-as, limits-as, room-as, early-options, early-is}
 use borrow.Author.Needs.{needs}
 use Rattle.multilevel.proofs.causes.early_cause.Statement.{statement}
 use Rattle.multilevel.proofs.causes.early_cause.Tie as tie
@@ -35,7 +35,7 @@ third c = c .before .before
 abbrev fourth : tie.Else5 → tie.Else4
 fourth c = c .before .before
 
-options-pass : (c : tie.Else1) → badOptions (start c .options) ≡ false
+options-pass : (c : tie.Else1) → (badOptions (start c .options) ≡ false) × (badSwaps (start c .options) ≡ false)
 options-pass c = options-fine (start c .options) (c .before .validate .result) (c .before .validate .ensures) (c .if1 .left)
 
 counts-pass : (c : tie.Else2) → (let a = start (first c) in badCounts (vertexCount (a .offsets)) (a .ranks) ≡ false)
@@ -64,13 +64,13 @@ workloads-pass c =
 -- all but the last
 all-passed
     : (c : tie.Else5) (b : Bool)
-    → (let a = start (first (second (third (fourth c)))) in tooShort a ≡ b → firstOf false false false false false b ≡ earlyCause a)
+    → (let a = start (first (second (third (fourth c)))) in tooShort a ≡ b → firstOf false false false false false false b ≡ earlyCause a)
 all-passed c b e =
     let c4 = fourth c in
     let c3 = third c4 in
     let c2 = second c3 in
     let c1 = first c2 in
-    early-is (start c1) false false false false false b (options-pass c1) (counts-pass c2) (limits-pass c3) (lists-pass c4) (workloads-pass c) e
+    early-is (start c1) false false false false b (options-pass c1) (counts-pass c2) (limits-pass c3) (lists-pass c4) (workloads-pass c) e
 
 -- ---- the tests
 
@@ -80,7 +80,7 @@ validate-requires c κs = search needs
 returns : tie.Need-returns
 returns c =
     let s = c .before .before .before .before .before .before in
-    early-is (call s) true _ _ _ _ _ (options-bad (s .args .asked .options) (c .before .validate .result) (c .before .validate .ensures) (c .if1 .taken)) refl refl refl refl refl
+    early-options (call s) (c .before .validate .result) (c .before .validate .ensures) (c .if1 .taken)
 
 vertex-count-requires : tie.Need-vertex-count-requires
 vertex-count-requires c κs = search needs
@@ -94,7 +94,7 @@ bad-counts-requires c κs = search needs
 returns-2 : tie.Need-returns-2
 returns-2 c =
     let c1 = c .before .before .before .before in
-    early-is (start c1) false true _ _ _ _ (options-pass c1)
+    early-is (start c1) true _ _ _ _ (options-pass c1)
     (counts-as (c .before .before .before .vertex-count .ensures) (c .before .before .index .ensures) (c .before .bad-counts .ensures) (c .if2 .taken)) refl refl refl refl
 
 over-limits-requires : tie.Need-over-limits-requires
@@ -104,7 +104,7 @@ returns-3 : tie.Need-returns-3
 returns-3 c =
     let c2 = c .before .before in
     let c1 = first c2 in
-    early-is (start c1) false false true _ _ _ (options-pass c1) (counts-pass c2)
+    early-is (start c1) false true _ _ _ (options-pass c1) (counts-pass c2)
     (limits-as (c2 .before .before .before .vertex-count .ensures) (c2 .before .before .index .ensures) _ _ (c .before .over-limits .ensures) (c .if3 .taken)) refl refl refl
 
 lists-cause-requires : tie.Need-lists-cause-requires
@@ -116,7 +116,7 @@ returns-4 c =
     let c2 = second c3 in
     let c1 = first c2 in
     let a = start c1 in
-    early-is a false false false true _ _ (options-pass c1) (counts-pass c2) (limits-pass c3)
+    early-is a false false true _ _ (options-pass c1) (counts-pass c2) (limits-pass c3)
     (lists-bad (a .offsets) (a .neighbors) (c .before .lists-cause .result) (c .before .lists-cause .ensures .cause) (c .if4 .taken)) refl refl
 
 workloads-cause-requires : tie.Need-workloads-cause-requires
@@ -129,7 +129,7 @@ returns-5 c =
     let c2 = second c3 in
     let c1 = first c2 in
     let a = start c1 in
-    early-is a false false false false true _ (options-pass c1) (counts-pass c2) (limits-pass c3) (lists-pass c4)
+    early-is a false false false true _ (options-pass c1) (counts-pass c2) (limits-pass c3) (lists-pass c4)
     (workloads-bad (vertexCount (a .offsets)) (a .workloads) (c .before .workloads-cause .result)
     (c .before .workloads-cause .ensures ∙ ap (λ (x : ℕ). workloadsCause x (a .workloads)) (c2 .before .before .before .vertex-count .ensures)) (c .if5 .taken)) refl
 

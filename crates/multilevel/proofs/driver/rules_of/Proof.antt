@@ -36,6 +36,9 @@ minimum-load-requires c κs = search needs
 load-cap-requires : tie.Need-load-cap-requires
 load-cap-requires c κs = search needs
 
+swapping-of-requires : tie.Need-swapping-of-requires
+swapping-of-requires c κs = search needs
+
 stop-size-requires : tie.Need-stop-size-requires
 stop-size-requires c κs = search needs
 
@@ -44,12 +47,13 @@ add-t12 c = search needs
 
 mul-t11 : tie.Need-mul-t11
 mul-t11 c =
-    let c5 = c .before .before .before .before .before in
-    let a = c5 .args in
-    omega (arith, need-small (a .n) (a .m) (a .ranks) (a .options .«max_levels») (c5 .pre .0) .0, add-mul (a .options .«max_levels» + 1) 5 (unitOf (a .n) (a .m)), six (a .options .«max_levels») (unitOf (a .n) (a .m)))
+    let c6 = c .before .before .before .before .before .before in
+    let a = c6 .args in
+    omega (arith, need-small (a .n) (a .m) (a .ranks) (a .options .«max_levels») (c6 .pre .0) .0, add-mul (a .options .«max_levels» + 1) 5 (unitOf (a .n) (a .m)), six (a .options .«max_levels») (unitOf (a .n) (a .m)))
 
 returns : tie.Need-returns
-returns c = rw (c .before .before .before .index .ensures, c .before .before .minimum-load .ensures, c .before .load-cap .ensures, c .stop-size .ensures)
+returns c =
+    rw (c .before .before .before .before .index .ensures, c .before .before .before .minimum-load .ensures, c .before .before .load-cap .ensures, c .before .swapping-of .ensures, c .stop-size .ensures)
 
 pub rules-of-spec : {M : Type 1} → statement M
 rules-of-spec =
@@ -63,6 +67,7 @@ rules-of-spec =
     index-requires
     minimum-load-requires
     load-cap-requires
+    swapping-of-requires
     stop-size-requires
     add-t12
     mul-t11
