@@ -9,10 +9,17 @@ use Rattle.multilevel.specs.Causes.{Call}
 use Rattle.multilevel.specs.Division.{division}
 use Rattle.multilevel.specs.Contract.{answerOf, outcomeNumber, outcomeStats, Partitioned}
 
--- the options as four numbers, in their order
+-- the options as six numbers, in their order
 abbrev pub optionsFrom : List ℕ → AbtmMultilevelOptions
 optionsFrom xs =
-    record { «max_levels» = at xs 0; «coarse_vertices_per_rank» = at xs 1; «imbalance_per_mille» = at xs 2; «refinement_passes» = at xs 3 }
+    record {
+      «max_levels» = at xs 0;
+      «coarse_vertices_per_rank» = at xs 1;
+      «imbalance_per_mille» = at xs 2;
+      «refinement_passes» = at xs 3;
+      «swap_list_length» = at xs 4;
+      «swap_pass_factor» = at xs 5;
+    }
 
 -- the eight stats, in their order
 abbrev pub statsNumbers : AbtmMultilevelStats → List ℕ

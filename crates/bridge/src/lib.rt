@@ -35,23 +35,26 @@ pub extern "C" fn bridge_minimum_load(total: u64, ranks: u32, imbalance_per_mill
     links::minimum_load(total, ranks, imbalance_per_mille)
 }
 
+// The options of six numbers, in their order.
+fn options_of(numbers: &[u64; 6]) -> AbtmMultilevelOptions
+    ensures { λ r. ⌜ r ≡ optionsFrom (now (numbers .entry)) ⌝ }
+{
+    AbtmMultilevelOptions {
+        max_levels: numbers[0],
+        coarse_vertices_per_rank: numbers[1],
+        imbalance_per_mille: numbers[2],
+        refinement_passes: numbers[3],
+        swap_list_length: numbers[4],
+        swap_pass_factor: numbers[5],
+    }
+}
+
 // 0, or the refusal.
 #[no_mangle]
-pub extern "C" fn bridge_validate(
-    max_levels: u64,
-    per_rank: u64,
-    imbalance_per_mille: u64,
-    passes: u64,
-) -> u32
-    ensures { λ r. ⌜ r ≡ optionsCause (record { «max_levels» = «max_levels»; «coarse_vertices_per_rank» = «per_rank»; «imbalance_per_mille» = «imbalance_per_mille»; «refinement_passes» = passes }) ⌝ }
+pub extern "C" fn bridge_validate(options: &[u64; 6]) -> u32
+    ensures { λ r. ⌜ r ≡ optionsCause (optionsFrom (now (options .entry))) ⌝ }
 {
-    let options = AbtmMultilevelOptions {
-        max_levels: max_levels,
-        coarse_vertices_per_rank: per_rank,
-        imbalance_per_mille: imbalance_per_mille,
-        refinement_passes: passes,
-    };
-    options.validate()
+    options_of(options).validate()
 }
 
 // 0, or the refusal.
@@ -201,26 +204,20 @@ pub extern "C" fn bridge_divide(
     neighbors: &[u32],
     workloads: &[u32],
     ranks: u32,
-    options: &[u64; 4],
+    options: &[u64; 6],
     owners: &mut [u32],
     work: &mut [u32],
     stats: &mut [u64; 8],
 ) -> u32
     ensures { λ r. ⌜ DividedAsNumbers (callOf (now (offsets .entry)) (now (neighbors .entry)) (now (workloads .entry)) ranks (optionsFrom (now (options .entry))) (length (now (owners .entry))) (length (now (work .entry)))) (now (owners .entry)) (now (owners .exit)) (now (work .entry)) (now (work .exit)) (now (stats .exit)) r ⌝ }
 {
-    let chosen = AbtmMultilevelOptions {
-        max_levels: options[0],
-        coarse_vertices_per_rank: options[1],
-        imbalance_per_mille: options[2],
-        refinement_passes: options[3],
-    };
     *stats = [0; 8];
     let a = multilevel::abtm_multilevel_partition(
         offsets,
         neighbors,
         workloads,
         ranks,
-        chosen,
+        options_of(options),
         owners,
         work,
     );

@@ -1,7 +1,7 @@
 -- Laws of the stages on a lent level: their premises hold, and what they leave is what is promised. Assumes nothing.
 use Prim.Native.Nat.{ℕ, _≤_, _<_}
 use mathlib.Core.Path.{_≡_, refl, sym, ap, _∙_}
-use mathlib.Core.Bool.{cond}
+use mathlib.Core.Bool.{true, false, cond}
 use mathlib.Core.List.{List}
 use native.Mathlib.Omega.{arith}
 use lib.ListN.{length}
@@ -11,7 +11,9 @@ use Rattle.links.specs.Graph.{vertexCount}
 use Rattle.links.specs.Owners.{fromOwners}
 use Rattle.links.specs.Lists.{foldl}
 use Rattle.links.specs.Loads.{Balance}
+use Rattle.links.specs.Options.{badListLength}
 use Rattle.links.proofs.RowLaws.{length-rows}
+use Rattle.links.proofs.OptionLaws.{good-list-length}
 use Rattle.stages.specs.Moves.{Step, after, refineByCut}
 use Rattle.stages.specs.Swaps.{refineFinePairSwaps}
 use Rattle.stages.specs.Level.{rowsAt, Laid, Ready}
@@ -21,6 +23,7 @@ use Rattle.stages.specs.GrowthCode.{Growable, GrownTold, growthCause, grownNumb
 use Rattle.stages.specs.MovesCode.{Refinable, RefinedByCut, movesAt, movedAt, refinedNumber, refinedValue}
 use Rattle.stages.specs.SwapsCode.{Swappable, RefinedBySwaps, swapsAt}
 use Rattle.stages.specs.declared.level.Limits.{Limits}
+use Rattle.stages.specs.declared.swaps.Swapping.{Swapping}
 use Rattle.stages.specs.declared.coarsen.Coarsened.{Coarsened}
 use Rattle.stages.specs.declared.coarsen.Coarsened.the-variants.{Same}
 use Rattle.stages.specs.declared.growth.Grown.{Grown}
@@ -32,13 +35,16 @@ use Rattle.bridge_stages.specs.Stages.{orElse, CoarsenedHere, SeededHere
 abbrev pub within-limits : ℕ → ℕ → ℕ → Limits
 within-limits k floor cap = record { ranks = k; floor = floor; cap = cap }
 
+abbrev pub swapping : ℕ → ℕ → Swapping
+swapping n passes = record { «list_length» = n; passes = passes }
+
 -- the same steps from equal rows, weights and owners
 module _ (b : Balance) (passes : ℕ) {rows rows′ : List (List ℕ)} {weights weights′ owners owners′ : List ℕ} (e : rows ≡ rows′) (f : weights ≡ weights′) (g : owners ≡ owners′) where
   same-moves : refineByCut b rows weights passes owners .steps ≡ refineByCut b rows′ weights′ passes owners′ .steps
   same-moves = cc
 
-  same-swaps : refineFinePairSwaps b rows weights 8 passes owners .steps ≡ refineFinePairSwaps b rows′ weights′ 8 passes owners′ .steps
-  same-swaps = cc
+  same-swaps : (n : ℕ) → refineFinePairSwaps b rows weights n passes owners .steps ≡ refineFinePairSwaps b rows′ weights′ n passes owners′ .steps
+  same-swaps n = cc
 
 -- ---- a level that is refused
 
@@ -70,9 +76,14 @@ module _ (s : Lent) (w w₁ : List ℕ) (number : ℕ) (e : Entered s w w₁ num
   moves-refused floor cap passes =
       record { number-is = told _; refused = λ h. e .refused f; moves-are = rw (ne-eqb number 0 f); owners = λ z. absurd (some z) }
 
-  pub swaps-refused : (floor cap passes : ℕ) → SwappedHere s floor cap passes w w₁ 0 number
-  swaps-refused floor cap passes =
-      record { number-is = e .cause; refused = e .refused; swaps-are = rw (ne-eqb number 0 f); owners = λ z. absurd (f z) }
+  pub swaps-refused : (floor cap passes n : ℕ) → badListLength n ≡ false → SwappedHere s floor cap passes n w w₁ 0 number
+  swaps-refused floor cap passes n g =
+      record { number-is = e .cause ∙ rw g; refused = e .refused; swaps-are = rw (ne-eqb number 0 f); owners = λ z. absurd (f z) }
+
+-- a list length out of its range: nothing is looked at
+pub swaps-unlisted : (s : Lent) (w : List ℕ) (floor cap passes n : ℕ) → badListLength n ≡ true → SwappedHere s floor cap passes n w w 0 17
+swaps-unlisted s w floor cap passes n e =
+    record { number-is = rw e; refused = λ f. refl; swaps-are = refl; owners = λ z. absurd (omega arith) }
 
 -- ---- a level that is laid
 
@@ -217,23 +228,25 @@ module _ (s : Lent) (w w₁ : List ℕ) (number : ℕ) (e : Entered s w w₁ num
               owners = λ _. r .owners ∙ moved-here;
             }
 
-        pub swappable : Swappable w₁ (p .level) (p .scratch) (p .lists) k
-        swappable =
+        pub swappable : (n : ℕ) → badListLength n ≡ false → Swappable w₁ (p .level) (p .scratch) (p .lists) k n
+        swappable n g =
             rw (at-place, at-ranks)
-            (record { ready = ready-below; room = omega arith; lists-in = here .room; few = here .limits .few-ranks; ranked = here .ranked })
+            (record { ready = ready-below; room = omega arith; lists-in = here .room; some-listed = good-list-length n g .some; few-listed = good-list-length n g .few; few = here .limits .few-ranks; ranked = here .ranked })
 
-        swaps-here : swapsAt w₁ (placeOf s .level) (within-limits (s .ranks) floor cap) passes ≡ swapsOf s floor cap passes
-        swaps-here = same-swaps (balanceOf s floor cap) passes rows-are (here .weights-are) (here .owners-are)
+        swaps-here : (n : ℕ) → swapsAt w₁ (placeOf s .level) (within-limits (s .ranks) floor cap) (swapping n passes) ≡ swapsOf s floor cap passes n
+        swaps-here n = same-swaps (balanceOf s floor cap) passes rows-are (here .weights-are) (here .owners-are) n
 
         pub swapped
-            : (w₂ : List ℕ) (swaps : ℕ)
-            → RefinedBySwaps w₁ w₂ (p .level) (p .scratch) (within-limits k floor cap) passes swaps
-            → SwappedHere s floor cap passes w w₂ swaps 0
-        swapped w₂ swaps r₀ =
-            let r : RefinedBySwaps w₁ w₂ (placeOf s .level) (placeOf s .scratch) (within-limits (s .ranks) floor cap) passes swaps = rw (at-place, at-ranks) at r₀ in
+            : (n : ℕ)
+            → badListLength n ≡ false
+            → (w₂ : List ℕ) (swaps : ℕ)
+            → RefinedBySwaps w₁ w₂ (p .level) (p .scratch) (within-limits k floor cap) (swapping n passes) swaps
+            → SwappedHere s floor cap passes n w w₂ swaps 0
+        swapped n g w₂ swaps r₀ =
+            let r : RefinedBySwaps w₁ w₂ (placeOf s .level) (placeOf s .scratch) (within-limits (s .ranks) floor cap) (swapping n passes) swaps = rw (at-place, at-ranks) at r₀ in
             record {
-              number-is = sym none;
+              number-is = sym (rw g none);
               refused = λ h. absurd (h refl);
-              swaps-are = r .number ∙ ap length swaps-here;
-              owners = λ _. r .owners ∙ ap (λ (u : List ℕ). foldl after u (swapsAt w₁ (placeOf s .level) (within-limits (s .ranks) floor cap) passes)) (here .owners-are) ∙ ap (foldl after (s .owners)) swaps-here;
+              swaps-are = r .number ∙ ap length (swaps-here n);
+              owners = λ _. r .owners ∙ ap (λ (u : List ℕ). foldl after u (swapsAt w₁ (placeOf s .level) (within-limits (s .ranks) floor cap) (swapping n passes))) (here .owners-are) ∙ ap (foldl after (s .owners)) (swaps-here n);
             }

@@ -7,6 +7,7 @@ use lib.ListN.{length}
 use lib.Dec.{eqb}
 use Rattle.links.specs.Lists.{foldl}
 use Rattle.links.specs.Loads.{Balance}
+use Rattle.links.specs.Options.{badListLength}
 use Rattle.links.specs.Parts.{part}
 use Rattle.links.specs.Graph.{vertexCount}
 use Rattle.links.specs.Owners.{fromOwners}
@@ -92,11 +93,15 @@ pub record MovedHere (s : Lent) (floor cap passes : ℕ) (w w′ : List ℕ) (mo
   pub moves-are : moves ≡ cond (eqb number 0) (length (movesOf s floor cap passes)) 0
   pub owners : lentCause s (length w) ≡ 0 → ownersAt w′ (placeOf s .level) ≡ movedOf s floor cap passes
 
-abbrev pub swapsOf : Lent → ℕ → ℕ → ℕ → List Step
-swapsOf s floor cap passes = refineFinePairSwaps (balanceOf s floor cap) (rowsIn s) (s .weights) 8 passes (s .owners) .steps
+abbrev pub swapsOf : Lent → (floor cap passes listLength : ℕ) → List Step
+swapsOf s floor cap passes listLength = refineFinePairSwaps (balanceOf s floor cap) (rowsIn s) (s .weights) listLength passes (s .owners) .steps
 
-pub record SwappedHere (s : Lent) (floor cap passes : ℕ) (w w′ : List ℕ) (swaps number : ℕ) : Type 0 where
-  pub number-is : number ≡ lentCause s (length w)
+-- 17 for a list length out of its range, before all else
+abbrev pub swapsCause : Lent → ℕ → ℕ → ℕ
+swapsCause s listLength work = cond (badListLength listLength) 17 (lentCause s work)
+
+pub record SwappedHere (s : Lent) (floor cap passes listLength : ℕ) (w w′ : List ℕ) (swaps number : ℕ) : Type 0 where
+  pub number-is : number ≡ swapsCause s listLength (length w)
   pub refused : (number ≡ 0 → ⊥) → w′ ≡ w
-  pub swaps-are : swaps ≡ cond (eqb number 0) (length (swapsOf s floor cap passes)) 0
-  pub owners : number ≡ 0 → ownersAt w′ (placeOf s .level) ≡ foldl after (s .owners) (swapsOf s floor cap passes)
+  pub swaps-are : swaps ≡ cond (eqb number 0) (length (swapsOf s floor cap passes listLength)) 0
+  pub owners : number ≡ 0 → ownersAt w′ (placeOf s .level) ≡ foldl after (s .owners) (swapsOf s floor cap passes listLength)

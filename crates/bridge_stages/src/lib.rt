@@ -7,11 +7,14 @@ mod lent;
 
 use crate::lent::enter;
 use crate::lent::place_of;
+use links::bad_list_length;
 use links::index;
+use links::wide;
 use stages::Coarsened;
 use stages::Grown;
 use stages::Limits;
 use stages::Refined;
+use stages::Swapping;
 use stages::coarsen_once_cached;
 use stages::farthest_seeds;
 use stages::refine_by_cut;
@@ -145,7 +148,7 @@ pub extern "C" fn bridge_moves(
     0
 }
 
-// Rule 7: the number of swaps, or 0, is written.
+// Rule 7: the number of swaps, or 0, is written; 17, before all else, for a list length out of its range.
 #[no_mangle]
 pub extern "C" fn bridge_swaps(
     offsets: &[u32],
@@ -156,12 +159,16 @@ pub extern "C" fn bridge_swaps(
     floor: u64,
     cap: u64,
     passes: u64,
+    list_length: u32,
     work: &mut [u32],
     swaps: &mut u64,
 ) -> u32
-    ensures { λ r. ⌜ SwappedHere (lent (now (offsets .entry)) (now (neighbors .entry)) (now (weights .entry)) (now (owners .entry)) ranks) floor cap passes (now (work .entry)) (now (work .exit)) (now (swaps .exit)) r ⌝ }
+    ensures { λ r. ⌜ SwappedHere (lent (now (offsets .entry)) (now (neighbors .entry)) (now (weights .entry)) (now (owners .entry)) ranks) floor cap passes «list_length» (now (work .entry)) (now (work .exit)) (now (swaps .exit)) r ⌝ }
 {
     *swaps = 0;
+    if bad_list_length(wide(list_length)) {
+        return 17;
+    }
     let cause = enter(offsets, neighbors, weights, owners, ranks, work);
     if cause != 0 {
         return cause;
@@ -172,6 +179,10 @@ pub extern "C" fn bridge_swaps(
         floor,
         cap,
     };
-    *swaps = refine_fine_pair_swaps(work, p.level, p.scratch, p.lists, limits, passes);
+    let swapping = Swapping {
+        list_length: index(list_length),
+        passes,
+    };
+    *swaps = refine_fine_pair_swaps(work, p.level, p.scratch, p.lists, limits, swapping);
     0
 }

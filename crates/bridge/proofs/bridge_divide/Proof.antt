@@ -1,23 +1,31 @@
 -- The answer is told in numbers. Assumes nothing.
 use Prim.Native.Nat.{ℕ}
-use mathlib.Core.Path.{_≡_, refl, ap, sym, _∙_}
+use mathlib.Core.Path.{_≡_, refl, ap, sym, _∙_, subst}
 use mathlib.Core.List.{List}
+use lib.ListN.{length}
 use Rattle.links.specs.Options.{zeroStats}
+use Rattle.links.specs.declared.options.AbtmMultilevelOptions.{AbtmMultilevelOptions}
 use Rattle.multilevel.specs.declared.driver.Answer.{Answer}
-use Rattle.multilevel.specs.Causes.{Call}
+use Rattle.multilevel.specs.Causes.{Call, callOf}
 use Rattle.multilevel.specs.Contract.{answerNumber, answerStats, Partitioned}
 use Rattle.bridge.specs.Division.{statsNumbers, DividedAsNumbers}
 use borrow.Author.Needs.{needs}
 use Rattle.bridge.proofs.bridge_divide.Statement.{statement}
 use Rattle.bridge.proofs.bridge_divide.Tie as tie
 
+-- the call of a start, with given options
+abbrev call : tie.Start → AbtmMultilevelOptions → Call
+call s o = let a = s .args in callOf (a .offsets .now) (a .neighbors .now) (a .workloads .now) (a .ranks) o (length (a .owners .now)) (length (a .work .now))
+
 as-numbers
-    : {c : Call} {owners owners′ work work′ stats : List ℕ} {a : Answer} {number : ℕ}
+    : {c c′ : Call} {owners owners′ work work′ stats : List ℕ} {a : Answer} {number : ℕ}
+    → c ≡ c′
     → Partitioned c owners owners′ work work′ a
     → number ≡ answerNumber a
     → stats ≡ statsNumbers (answerStats a)
-    → DividedAsNumbers c owners owners′ work work′ stats number
-as-numbers p number-is stats-are =
+    → DividedAsNumbers c′ owners owners′ work work′ stats number
+as-numbers {c} {c′} {owners} {owners′} {work} {work′} {stats} {a} same divided number-is stats-are =
+    let p : Partitioned c′ owners owners′ work work′ a = subst (λ (x : Call). Partitioned x owners owners′ work work′ a) same divided in
     record {
       number = number-is ∙ p .number-is;
       stats = stats-are ∙ ap statsNumbers (p .stats-are);
@@ -32,17 +40,8 @@ as-numbers p number-is stats-are =
           };
     }
 
-element-copy-out-t14 : tie.Need-element-copy-out-t14
-element-copy-out-t14 c = search needs
-
-element-copy-out-t17 : tie.Need-element-copy-out-t17
-element-copy-out-t17 c = search needs
-
-element-copy-out-t20 : tie.Need-element-copy-out-t20
-element-copy-out-t20 c = search needs
-
-element-copy-out-t23 : tie.Need-element-copy-out-t23
-element-copy-out-t23 c = search needs
+options-of-requires : tie.Need-options-of-requires
+options-of-requires c κs = search needs
 
 abtm-multilevel-partition-requires : tie.Need-abtm-multilevel-partition-requires
 abtm-multilevel-partition-requires c κs = search needs
@@ -67,7 +66,9 @@ unfolding zeroStats
 returns c =
     let c1 = c .before in
     let c7 = c1 .before .before .before .before .before .before in
-    as-numbers (c7 .abtm-multilevel-partition .ensures) (c .number .ensures)
+    let c10 = c7 .before .before .before in
+    let s = c10 .before .before .before .before .before .before .before in
+    as-numbers (ap (call s) (c10 .options-of .ensures)) (c7 .abtm-multilevel-partition .ensures) (c .number .ensures)
     (sym (ap (λ (a : Answer). statsNumbers (answerStats a)) (c1 .enum-told .given .1)))
 
 numbers-of-requires : tie.Need-numbers-of-requires
@@ -83,17 +84,16 @@ returns-2 : tie.Need-returns-2
 returns-2 c =
     let c2 = c .before .before in
     let c8 = c2 .before .before .before .before .before .before in
-    as-numbers (c8 .abtm-multilevel-partition .ensures) (sym (ap answerNumber (c2 .a .given .1)))
+    let c11 = c8 .before .before .before in
+    let s = c11 .before .before .before .before .before .before .before in
+    as-numbers (ap (call s) (c11 .options-of .ensures)) (c8 .abtm-multilevel-partition .ensures) (sym (ap answerNumber (c2 .a .given .1)))
     (c .numbers-of .ensures ∙ sym (ap (λ (a : Answer). statsNumbers (answerStats a)) (c2 .a .given .1)))
 
 pub bridge-divide-spec : {M : Type 1} → statement M
 bridge-divide-spec =
     tie.close
     (tie.spec
-    element-copy-out-t14
-    element-copy-out-t17
-    element-copy-out-t20
-    element-copy-out-t23
+    options-of-requires
     abtm-multilevel-partition-requires
     enum-known-a
     enum-told
