@@ -57,6 +57,33 @@ const CHANGES: &[(&str, &str, Replacements)] = &[
             ),
         ],
     ),
+    (
+        "P9",
+        "the length of a candidate list and the factor of the swaps' passes are options, by default 8 and 4",
+        &[
+            (
+                "pub refinement_passes: usize,",
+                "pub refinement_passes: usize,\n    pub swap_list_length: usize,\n    pub swap_pass_factor: usize,",
+            ),
+            (
+                "refinement_passes: 2,",
+                "refinement_passes: 2,\n            swap_list_length: 8,\n            swap_pass_factor: 4,",
+            ),
+            (
+                "fn refine_fine_pair_swaps(\n    matrix: &Csr32Matrix,\n    weights: &[usize],",
+                "fn refine_fine_pair_swaps(\n    matrix: &Csr32Matrix,\n    weights: &[usize],\n    list_length: usize,",
+            ),
+            ("items.truncate(8);", "items.truncate(list_length);"),
+            (
+                "refine_fine_pair_swaps(\n            matrix,\n            workloads,",
+                "refine_fine_pair_swaps(\n            matrix,\n            workloads,\n            options.swap_list_length,",
+            ),
+            (
+                "options.refinement_passes.saturating_mul(4)",
+                "options.refinement_passes.saturating_mul(options.swap_pass_factor)",
+            ),
+        ],
+    ),
 ];
 
 /// Where the Rust stands: HIPSTERN_RUST_SRC (from the repository's root, if it is relative), by default ../shared/docs/src.

@@ -4,10 +4,10 @@ include!("../reference/changes.rs");
 include!("slips.rs");
 
 fn main() {
-    for file in ["slips.rs", "../reference/changes.rs", "../reference/src/asked.rs"] {
+    for file in ["slips.rs", "../reference/changes.rs", "../reference/src/options.rs", "../reference/src/asked.rs"] {
         println!("cargo:rerun-if-changed={file}");
     }
-    let asked = include_str!("../reference/src/asked.rs");
+    let asked = concat!(include_str!("../reference/src/options.rs"), include_str!("../reference/src/asked.rs"));
     let mut modules = String::new();
     let mut table = String::from("pub const SLIPS: &[Slip] = &[\n");
     for (slips, weighed) in [(SLIPS, false), (WORKLOAD_SLIPS, true)] {

@@ -80,7 +80,7 @@ const SLIPS: &[(&str, &str, Replacements)] = &[
     (
         "passes_once",
         "swaps have refinement_passes passes, not four times as many",
-        &[("options.refinement_passes.saturating_mul(4)", "options.refinement_passes")],
+        &[("options.refinement_passes.saturating_mul(options.swap_pass_factor)", "options.refinement_passes")],
     ),
     // further edits, a few for each stage
     (
@@ -155,7 +155,7 @@ const SLIPS: &[(&str, &str, Replacements)] = &[
     (
         "seven_candidates",
         "seven candidates for a pair of ranks, not eight",
-        &[("items.truncate(8);", "items.truncate(7);")],
+        &[("items.truncate(list_length);", "items.truncate(list_length - 1);")],
     ),
     // request P4
     (
@@ -195,6 +195,50 @@ const SLIPS: &[(&str, &str, Replacements)] = &[
                 "let candidate = (gain, usize::MAX - stale[target], usize::MAX - target);",
             ),
         ],
+    ),
+    // request P9, with its defaults
+    (
+        "nine_candidates",
+        "nine candidates for a pair of ranks, not eight",
+        &[("items.truncate(list_length);", "items.truncate(list_length + 1);")],
+    ),
+    (
+        "numbers_exchanged",
+        "the list length is taken for the pass factor and the factor for the length: four candidates, eight times the passes",
+        &[
+            ("workloads,\n            options.swap_list_length,", "workloads,\n            options.swap_pass_factor,"),
+            ("saturating_mul(options.swap_pass_factor)", "saturating_mul(options.swap_list_length)"),
+        ],
+    ),
+    (
+        "factor_for_moves",
+        "the moves have the factor times refinement_passes passes too",
+        &[
+            (
+                "\n        options.refinement_passes,",
+                "\n        options.refinement_passes.saturating_mul(options.swap_pass_factor),",
+            ),
+            (
+                "\n            options.refinement_passes,",
+                "\n            options.refinement_passes.saturating_mul(options.swap_pass_factor),",
+            ),
+        ],
+    ),
+    (
+        "cut_before_sorted",
+        "a list has the candidates of the lowest numbers, not those of the greatest gains",
+        &[
+            ("items.sort_unstable_by(", "items.truncate(list_length);\n                items.sort_unstable_by("),
+            ("\n                items.truncate(list_length);\n            }", "\n            }"),
+        ],
+    ),
+    (
+        "equal_gains_high",
+        "of equal gains the candidate of the higher number is listed first",
+        &[(
+            "items.sort_unstable_by(|a, b| b.0.cmp(&a.0).then_with(|| a.1.cmp(&b.1)));",
+            "items.sort_unstable_by(|a, b| b.0.cmp(&a.0).then_with(|| b.1.cmp(&a.1)));",
+        )],
     ),
 ];
 

@@ -6,6 +6,7 @@
 //!     n k L per t passes       vertices, ranks, max_levels, coarse_vertices_per_rank, imbalance_per_mille, refinement_passes
 //!     a b                      a link, once, in either order; as many lines as there are links
 //!     workloads 3 1 2 1        one for each vertex; without this line each is 1
+//!     swaps 8 4                swap_list_length and swap_pass_factor; without this line they are 8 and 4
 //!
 //! It prints `refused NUMBER`, or
 //!     owners 0 0 1 1
@@ -28,7 +29,7 @@ fn main() {
     std::io::stdin().read_to_string(&mut text).unwrap_or_else(|e| stop(&e.to_string()));
     let question = question(&text);
     let answer = partition(&question);
-    if traced && !matches!(answer, Err(1..=5 | 13)) {
+    if traced && !matches!(answer, Err(1..=5 | 13 | 17)) {
         print_stages(&trace(&question));
     }
     match answer {
@@ -42,8 +43,8 @@ fn main() {
 
 fn question(text: &str) -> Question {
     let lines = text.lines().flat_map(|line| line.split('#').next().unwrap_or("").split(';')).map(str::trim);
-    let (loads, lines): (Vec<_>, Vec<_>) =
-        lines.filter(|line| !line.is_empty()).partition(|line| line.starts_with("workloads"));
+    let mut lines: Vec<_> = lines.filter(|line| !line.is_empty()).collect();
+    let (loads, swapping) = (named(&mut lines, "workloads"), named(&mut lines, "swaps"));
     let lines: Vec<_> = lines.into_iter().map(numbers).collect();
     let Some((first, rest)) = lines.split_first() else { stop("no line") };
     let &[n, k, ref options @ ..] = first.as_slice() else { stop(FIRST) };
@@ -54,19 +55,30 @@ fn question(text: &str) -> Question {
     let site = Site::new(n as usize, &links.collect::<Vec<_>>());
     let ranks = u32::try_from(k).unwrap_or_else(|_| stop("k is above 2^32 - 1"));
     let options = options.try_into().unwrap_or_else(|_| stop(FIRST));
-    let question = Question::new(site, ranks, Options::of(options));
-    match loads.as_slice() {
-        [] => question,
-        [line] => question.weighed(workloads(line)),
-        _ => stop("workloads twice"),
+    let mut question = Question::new(site, ranks, Options::of(options));
+    if let Some(two) = swapping {
+        question.options = question.options.with(two.try_into().unwrap_or_else(|_| stop("swaps has two numbers")));
+    }
+    match loads {
+        None => question,
+        Some(loads) => question.weighed(loads.into_iter().map(narrow).collect()),
     }
 }
 
 const FIRST: &str = "the first line is n k L per t passes";
 
-fn workloads(line: &str) -> Vec<u32> {
-    let narrow = |w: u64| u32::try_from(w).unwrap_or_else(|_| stop("a workload is above 2^32 - 1"));
-    numbers(line.trim_start_matches("workloads")).into_iter().map(narrow).collect()
+/// The numbers of the line that begins with this word, which is taken from the others.
+fn named(lines: &mut Vec<&str>, word: &str) -> Option<Vec<u64>> {
+    let found: Vec<_> = lines.extract_if(.., |line| line.starts_with(word)).collect();
+    match found.as_slice() {
+        [] => None,
+        [line] => Some(numbers(line.trim_start_matches(word))),
+        _ => stop(&format!("{word} twice")),
+    }
+}
+
+fn narrow(workload: u64) -> u32 {
+    u32::try_from(workload).unwrap_or_else(|_| stop("a workload is above 2^32 - 1"))
 }
 
 fn numbers(line: &str) -> Vec<u64> {

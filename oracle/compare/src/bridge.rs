@@ -20,7 +20,7 @@ mod exported {
     unsafe extern "C" {
         pub fn bridge_load_cap(total: u64, ranks: u32, imbalance_per_mille: u32) -> u64;
         pub fn bridge_minimum_load(total: u64, ranks: u32, imbalance_per_mille: u32) -> u64;
-        pub fn bridge_validate(max_levels: u64, per_rank: u64, imbalance_per_mille: u64, passes: u64) -> u32;
+        pub fn bridge_validate(options: *const [u64; 6]) -> u32;
         pub fn bridge_from_owners(ranks: u32, owners: *const u32, owners_len: usize) -> u32;
         pub fn bridge_owner_of(owners: *const u32, owners_len: usize, v: u64, rank: *mut u32) -> u32;
         pub fn bridge_owned_count(ranks: u32, owners: *const u32, owners_len: usize, rank: u32, count: *mut u64)
@@ -62,7 +62,7 @@ mod exported {
             workloads: *const u32,
             workloads_len: usize,
             ranks: u32,
-            options: *const [u64; 4],
+            options: *const [u64; 6],
             owners: *mut u32,
             owners_len: usize,
             work: *mut u32,
@@ -97,7 +97,7 @@ pub fn minimum_load(total: u64, ranks: u32, t: u32) -> u64 {
 }
 
 pub fn validate(o: Options) -> u32 {
-    unsafe { bridge_validate(o.max_levels, o.coarse_vertices_per_rank, o.imbalance_per_mille, o.refinement_passes) }
+    unsafe { bridge_validate(&o.numbers()) }
 }
 
 pub fn from_owners(ranks: u32, owners: &[u32]) -> u32 {

@@ -25,7 +25,7 @@ mod exported {
         bridge_seeds(work: *mut u32, work_len: usize);
         bridge_growth(cap: u64, work: *mut u32, work_len: usize, restarts: *mut u64);
         bridge_moves(floor: u64, cap: u64, passes: u64, work: *mut u32, work_len: usize, moves: *mut u64);
-        bridge_swaps(floor: u64, cap: u64, passes: u64, work: *mut u32, work_len: usize, swaps: *mut u64);
+        bridge_swaps(floor: u64, cap: u64, passes: u64, list_length: u32, work: *mut u32, work_len: usize, swaps: *mut u64);
     }
 }
 use exported::*;
@@ -127,9 +127,9 @@ impl Level {
         (number, moves)
     }
 
-    pub fn swaps(&self, r: Rules, work: &mut [u32]) -> (u32, u64) {
-        let mut swaps = 77;
-        let number = call!(bridge_swaps, self, r.floor, r.cap, r.passes, work.as_mut_ptr(), work.len(), &mut swaps);
+    pub fn swaps(&self, r: Rules, list_length: u32, work: &mut [u32]) -> (u32, u64) {
+        let (mut swaps, (p, n)) = (77, (work.as_mut_ptr(), work.len()));
+        let number = call!(bridge_swaps, self, r.floor, r.cap, r.passes, list_length, p, n, &mut swaps);
         (number, swaps)
     }
 }

@@ -121,9 +121,10 @@ pub fn chain_of_moves(n: usize, left: bool) -> Level {
 }
 
 /// A chain of swaps: 2n vertices in linked pairs, of which rank 0 has one and rank 1 the other. Each swap mends two links, and
-/// the lists of a pass have eight vertices each.
-pub fn chain_of_swaps(n: usize) -> Level {
-    let links: Vec<_> = (0..n).map(|v| (v, n + v)).collect();
+/// the lists of a pass are as long as they may be. Each vertex's partner has the same place in the other list, or one `turned` by
+/// so many.
+pub fn chain_of_swaps(n: usize, turned: usize) -> Level {
+    let links: Vec<_> = (0..n).map(|v| (v, n + (v + turned) % n)).collect();
     let owners = (0..2 * n).map(|v| (v / n) as u32).collect();
     Level::new(Site::new(2 * n, &links), vec![1; 2 * n], owners, 2)
 }

@@ -1,14 +1,15 @@
 //! Rules 1 and 2, the options' test, the neighbor query, the list test and the test of workloads: crate links.
 use crate::bridge;
 use crate::report::{Check, Report};
-use reference::answers::{self, Options};
+use reference::answers::{self, MAX_LIST_LENGTH, MAX_PASS_FACTOR, Options};
 use reference::random::Random;
 use reference::sites::{self, Site};
 
 pub fn compare(report: &mut Report, seed: u64, count: u64) {
     report.check("load_cap and minimum_load, small", &[], small_loads);
     report.check("load_cap and minimum_load, at the limits", &[], |c| loads(c, &mut Random::new(seed), count));
-    report.check("validate", &[0, 1], |c| options(c, &mut Random::new(seed), count));
+    report.check("validate", &[0, 1, 17], |c| options(c, &mut Random::new(seed), count));
+    report.check("validate, about the ends of every range", &[0, 1, 17], about_ranges);
     report.check("from_owners, all small lists", &[0, 2, 9, 12], small_owners);
     report.check("from_owners, at the limits", &[0, 2, 3, 9, 12], |c| owners(c, &mut Random::new(seed), count));
     report.check("owner_of", &[0, 11], |c| owner_of(c, &mut Random::new(seed), count));
@@ -80,16 +81,42 @@ fn loads(check: &mut Check, random: &mut Random, count: u64) {
     }
 }
 
+fn validate(check: &mut Check, o: Options) {
+    let rust = o.validate();
+    check.same(rust, bridge::validate(o), rust, || format!("{o:?}"));
+}
+
 fn options(check: &mut Check, random: &mut Random, count: u64) {
     for _ in 0..count {
-        let o = Options {
-            max_levels: edge(random),
-            coarse_vertices_per_rank: edge(random),
-            imbalance_per_mille: if random.once_in(2) { random.between(495, 505) } else { edge(random) },
-            refinement_passes: edge(random),
-        };
-        let rust = o.validate();
-        check.same(rust, bridge::validate(o), rust, || format!("{o:?}"));
+        let imbalance = if random.once_in(2) { random.between(495, 505) } else { edge(random) };
+        let filed = Options::of([edge(random), edge(random), imbalance, edge(random)]);
+        validate(check, filed);
+        let mut near = |most: u64| if random.once_in(3) { edge(random) } else { random.below(most + 3) };
+        validate(check, filed.with([near(MAX_LIST_LENGTH), near(MAX_PASS_FACTOR)]));
+    }
+}
+
+/// All list lengths and pass factors to beyond their range, and some far beyond it, with the other options good or one or all of
+/// them bad: 1 comes before 17.
+fn about_ranges(check: &mut Check) {
+    let far = [1 << 8, (1 << 8) + 4, 1 << 16, (1 << 32) + 4, (1 << 32) + 8, 1 << 63, u64::MAX];
+    let tried: Vec<u64> = (0..=14).chain(far).collect();
+    let most = u64::MAX;
+    for filed in [
+        [12, 64, 30, 2],
+        [1, 1, 0, 1],
+        [most, most, 500, most],
+        [0, 64, 30, 2],
+        [12, 0, 30, 2],
+        [12, 64, 501, 2],
+        [12, 64, 30, 0],
+        [0, 0, most, 0],
+    ] {
+        for &length in &tried {
+            for &factor in &tried {
+                validate(check, Options::of(filed).with([length, factor]));
+            }
+        }
     }
 }
 

@@ -1,15 +1,17 @@
 //! The five stages beside the Rust's, each by itself, on levels of any weights and owners. Moves and swaps are held against the
-//! oracle in force; the others, moves among two ranks, and swaps where all weights are 1, against the unchanged Rust: no request
-//! has changed them.
+//! oracle in force; the others, moves among two ranks, and swaps where all weights are 1 and the lists have the default length,
+//! against the unchanged Rust: no request has changed them.
 use crate::bridge;
 use crate::bridge_stages::{Level, Rules};
 use crate::levels::{self, MAX_TOTAL};
 use crate::report::{Check, Report};
-use reference::answers::{self, MAX_NEIGHBORS, MAX_RANKS, MAX_VERTICES, lists_cause};
+use reference::answers::{self, MAX_LIST_LENGTH, MAX_NEIGHBORS, MAX_RANKS, MAX_VERTICES, SWAPPING, lists_cause};
 use reference::random::Random;
 use reference::unchanged::stages;
 
 const PASSES: [u64; 4] = [1, 2, 10, u64::MAX];
+/// How many candidates a list has, unless a check says others.
+const LISTED: u32 = SWAPPING[0] as u32;
 
 /// What the work slice holds before a call: nothing that a stage could rest on.
 fn noise(length: usize) -> Vec<u32> {
@@ -88,23 +90,41 @@ fn moves(check: &mut Check, level: &Level, t: u32, passes: u64) -> u64 {
 
 /// The Rust's swaps end with a check of the owners, which in a division cannot refuse; document 01 has none there, so it is made
 /// here.
-fn swaps(check: &mut Check, level: &Level, t: u32, passes: u64) -> u64 {
+fn swaps_listed(check: &mut Check, level: &Level, t: u32, passes: u64, length: u32) -> u64 {
     let mut work = noise(level.need());
-    let answer = level.swaps(rules(level, t, passes), &mut work);
+    let answer = level.swaps(rules(level, t, passes), length, &mut work);
     let ours = refined(level, answer, &work).and_then(|made| match bridge::from_owners(level.ranks, &made.0) {
         0 => Ok(made),
         number => Err(number),
     });
     let (rows, weights) = (level.rows(), wide(&level.weights));
-    let rust = answers::swaps(&weights)(&rows, &weights, level.ranks, &level.owners, t, passes as usize);
+    let expected = answers::swaps(&weights, length.into());
+    let rust = expected(&rows, &weights, level.ranks, &level.owners, t, passes as usize, length as usize);
     check.made(answer.1);
-    check.outcomes(ours, checked(level, rust), || format!("t {t}, passes {passes}, {level:?}"));
+    check.outcomes(ours, checked(level, rust), || format!("t {t}, passes {passes}, lists of {length}, {level:?}"));
     answer.1
+}
+
+fn swaps(check: &mut Check, level: &Level, t: u32, passes: u64) -> u64 {
+    swaps_listed(check, level, t, passes, LISTED)
+}
+
+fn unit(level: &Level) -> Level {
+    Level { weights: vec![1; level.vertices()], ..level.clone() }
 }
 
 /// The same with weights of 1.
 fn unit_swaps(check: &mut Check, level: &Level, t: u32, passes: u64) -> u64 {
-    swaps(check, &Level { weights: vec![1; level.vertices()], ..level.clone() }, t, passes)
+    swaps(check, &unit(level), t, passes)
+}
+
+/// Every list length, half of the time with weights of 1.
+fn all_lists(check: &mut Check, random: &mut Random, level: &Level) {
+    let level = if random.once_in(2) { level.clone() } else { unit(level) };
+    let (t, passes) = (some_imbalance(random), random.pick(&PASSES));
+    for length in 1..=MAX_LIST_LENGTH as u32 {
+        swaps_listed(check, &level, t, passes, length);
+    }
 }
 
 // ---- chains
@@ -121,15 +141,21 @@ fn chains_of_moves(check: &mut Check) {
     }
 }
 
+/// A list of one has nothing to swap, for the two that lead are a pair; with longer ones all pairs are mended in the end. Where no
+/// partners are in the lists, all their pairs are proposed, the last of them is needed, and a pass swaps as many as a list is long.
 fn chains_of_swaps(check: &mut Check) {
-    for n in [2, 3, 16, 17, 100, 300] {
-        for passes in PASSES {
-            let level = levels::chain_of_swaps(n);
-            let count = swaps(check, &level, 500, passes);
-            if passes == u64::MAX {
-                check.same(0, count, n as u64 / 2, || format!("the swaps of {n} pairs"));
+    for length in 1..=MAX_LIST_LENGTH as u32 {
+        for n in [2, 3, 16, 17, 100, 300] {
+            for passes in PASSES {
+                let count = swaps_listed(check, &levels::chain_of_swaps(n, 0), 500, passes, length);
+                if passes == u64::MAX {
+                    let expected = if length == 1 { 0 } else { n as u64 / 2 };
+                    check.same(0, count, expected, || format!("the swaps of {n} pairs, lists of {length}"));
+                }
             }
         }
+        let count = swaps_listed(check, &levels::chain_of_swaps(24, 12), 500, 1, length);
+        check.same(0, count, length.into(), || format!("the swaps of a pass, lists of {length}"));
     }
 }
 
@@ -162,10 +188,20 @@ fn spoilt(check: &mut Check, random: &mut Random) {
         return check.same(0, level.coarsen(&mut work).0, 0, || format!("{level:?}"));
     }
     let r = Rules { floor: 0, cap: u64::MAX, passes: 1 };
-    let counted = [level.growth(r.cap, &mut work), level.moves(r, &mut work), level.swaps(r, &mut work)];
+    let counted = [level.growth(r.cap, &mut work), level.moves(r, &mut work), level.swaps(r, LISTED, &mut work)];
     let ours = (level.coarsen(&mut work), level.seeds(&mut work), counted, work);
     let rust = ((expected, [0; 4]), expected, [(expected, 0); 3], before);
     check.same(expected, ours, rust, || format!("{lent} work numbers, {level:?}"));
+}
+
+/// Any level, spoilt or not, with a list length out of its range: 17 comes before all else.
+fn bad_length(check: &mut Check, random: &mut Random) {
+    let level = if random.once_in(2) { levels::any(random, 12) } else { levels::spoilt(random) };
+    let before = noise(random.index(2000));
+    let mut work = before.clone();
+    let length = random.pick(&[0, 13, 255, 256 + LISTED, (1 << 16) + LISTED, 1 << 31, u32::MAX]);
+    let answer = level.swaps(Rules { floor: 0, cap: u64::MAX, passes: 1 }, length, &mut work);
+    check.same(17, (answer, work), ((17, 0), before), || format!("lists of {length}, {level:?}"));
 }
 
 // ---- all checks
@@ -202,7 +238,11 @@ fn small(check: &mut Check) {
     }
 }
 
-fn small_owned(check: &mut Check, levels: impl Iterator<Item = Level>, call: fn(&mut Check, &Level, u32, u64) -> u64) {
+fn small_owned(
+    check: &mut Check,
+    levels: impl Iterator<Item = Level>,
+    call: impl Fn(&mut Check, &Level, u32, u64) -> u64,
+) {
     for level in levels {
         for t in [0, 334, 500] {
             for passes in [1, u64::MAX] {
@@ -220,8 +260,10 @@ fn at_the_limits(check: &mut Check, random: &mut Random) {
         seeds(check, &level);
         growth(check, &level, t);
         moves(check, &level, t, u64::MAX);
-        swaps(check, &level, t, u64::MAX);
         unit_swaps(check, &level, t, u64::MAX);
+        for length in [1, LISTED, MAX_LIST_LENGTH as u32] {
+            swaps_listed(check, &level, t, u64::MAX, length);
+        }
     }
 }
 
@@ -244,10 +286,20 @@ pub fn compare(report: &mut Report, seed: u64, count: u64) {
         let unit = |level: &Level| level.weights.iter().all(|&w| w <= 1);
         small_owned(c, levels::small_owned().filter(unit), unit_swaps);
     });
+    report.check("refine_fine_pair_swaps, all small levels, lists of 1", &[0, 2, 9], |c| {
+        small_owned(c, levels::small_owned(), |c, level, t, passes| swaps_listed(c, level, t, passes, 1));
+    });
+    report.check("refine_fine_pair_swaps, lists of 1 to 12", &[0, 2, 9], |c| {
+        drawn(seed, count / 4, |random, level| all_lists(c, random, level));
+    });
     report.check("refine_fine_pair_swaps, chains of swaps", &[0], chains_of_swaps);
     report.check("the stages at the limits", &[0], |c| at_the_limits(c, &mut Random::new(seed)));
     report.check("the stages on spoilt levels", &[0, 3, 4, 5, 12], |c| {
         let mut random = Random::new(seed);
         (0..count).for_each(|_| spoilt(c, &mut random));
+    });
+    report.check("refine_fine_pair_swaps, list lengths out of their range", &[17], |c| {
+        let mut random = Random::new(seed);
+        (0..count).for_each(|_| bad_length(c, &mut random));
     });
 }

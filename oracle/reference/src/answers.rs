@@ -1,6 +1,6 @@
-//! What documents 01 and 02 expect of each public call. Where they add a refusal (3, 4, 5, 13; cap and floor beyond their range),
-//! their rule stands here and comes first, in their order; all else is what the Rust answers: the unchanged Rust where no request
-//! of 02 can change the answer, else the oracle in force.
+//! What documents 01 and 02 expect of each public call. Where they add a refusal (3, 4, 5, 13, 17; cap and floor beyond their
+//! range), their rule stands here and comes first, in their order; all else is what the Rust answers: the unchanged Rust where no
+//! request of 02 can change the answer, else the oracle in force.
 use crate::sites::Question;
 use crate::unchanged::{self, stages};
 use crate::{Csr32Matrix, DistributedTopologyError, PartitionAssignment, RankId, in_force};
@@ -10,6 +10,10 @@ pub const MAX_NEIGHBORS: usize = 131_072;
 pub const MAX_RANKS: u32 = 256;
 pub const MAX_LEVELS: u64 = 32;
 pub const MAX_WORKLOAD: u32 = 10_000;
+pub const MAX_LIST_LENGTH: u64 = 12;
+pub const MAX_PASS_FACTOR: u64 = 8;
+/// The defaults of both.
+pub const SWAPPING: [u64; 2] = [8, 4];
 
 /// The number of the Rust's error. InvalidRankCount is 2 by n and k, else the 7 of too few groups.
 pub fn refusal(e: &DistributedTopologyError, n: usize, ranks: u32) -> u32 {
@@ -114,29 +118,63 @@ pub fn workloads_cause(workloads: &[u32], n: u64) -> u32 {
 
 // ---- rule 8
 
-/// Options as 01 has them: u64 all.
+/// Options as 01 and request P9 have them: u64 all.
 #[derive(Clone, Copy, Debug, PartialEq, Eq)]
 pub struct Options {
     pub max_levels: u64,
     pub coarse_vertices_per_rank: u64,
     pub imbalance_per_mille: u64,
     pub refinement_passes: u64,
+    pub swap_list_length: u64,
+    pub swap_pass_factor: u64,
 }
 
 impl Options {
-    /// In the order of a link file.
-    pub fn numbers(self) -> [u64; 4] {
+    /// From the four that a link file carries, in its order; the other two are the defaults.
+    pub fn of([max_levels, coarse_vertices_per_rank, imbalance_per_mille, refinement_passes]: [u64; 4]) -> Self {
+        let [swap_list_length, swap_pass_factor] = SWAPPING;
+        Options {
+            max_levels,
+            coarse_vertices_per_rank,
+            imbalance_per_mille,
+            refinement_passes,
+            swap_list_length,
+            swap_pass_factor,
+        }
+    }
+
+    /// The same with this list length and pass factor.
+    pub fn with(self, [swap_list_length, swap_pass_factor]: [u64; 2]) -> Self {
+        Options { swap_list_length, swap_pass_factor, ..self }
+    }
+
+    /// The four that a link file carries.
+    pub fn filed(self) -> [u64; 4] {
         [self.max_levels, self.coarse_vertices_per_rank, self.imbalance_per_mille, self.refinement_passes]
     }
 
-    pub fn of([max_levels, coarse_vertices_per_rank, imbalance_per_mille, refinement_passes]: [u64; 4]) -> Self {
-        Options { max_levels, coarse_vertices_per_rank, imbalance_per_mille, refinement_passes }
+    /// The list length and the pass factor.
+    pub fn swapping(self) -> [u64; 2] {
+        [self.swap_list_length, self.swap_pass_factor]
     }
 
-    /// 0, or 1.
-    pub fn validate(self) -> u32 {
-        stages::validate(unchanged::options(self.numbers()))
+    /// All of them, in the order of the fields.
+    pub fn numbers(self) -> [u64; 6] {
+        let ([levels, per_rank, imbalance, passes], [length, factor]) = (self.filed(), self.swapping());
+        [levels, per_rank, imbalance, passes, length, factor]
     }
+
+    /// 0, or the Rust's 1, or request P9's 17, "after 1 and before 2".
+    pub fn validate(self) -> u32 {
+        let rust = stages::validate(unchanged::options(self.with(SWAPPING).numbers()));
+        if rust != 0 { rust } else { swapping_cause(self.swapping()) }
+    }
+}
+
+/// Request P9: 17 "for either outside its range", else 0.
+fn swapping_cause([length, factor]: [u64; 2]) -> u32 {
+    let good = (1..=MAX_LIST_LENGTH).contains(&length) && (1..=MAX_PASS_FACTOR).contains(&factor);
+    if good { 0 } else { 17 }
 }
 
 /// An accepted division: an owner for each vertex, and the stats in the order of `AbtmMultilevelStats`.
@@ -153,13 +191,14 @@ pub fn partition(question: &Question) -> Result<Division, u32> {
     partition_lent(question, usize::MAX, usize::MAX)
 }
 
-/// A division with so many owners and work numbers lent. 3, 4, 13 and 5 come after the Rust's 1 and 2: these are reckoned here
-/// too where the Rust cannot be given the lists.
+/// A division with so many owners and work numbers lent. 17 comes after the Rust's 1, and 3, 4, 13 and 5 after its 2: these are
+/// reckoned here too where the Rust cannot be given the lists.
 pub fn partition_lent(question: &Question, owners_lent: usize, work_lent: usize) -> Result<Division, u32> {
     let Question { site, workloads, ranks, options } = question;
     let (n, m) = (vertex_count(&site.offsets), site.neighbors.len());
-    if options.validate() != 0 {
-        return Err(1);
+    let invalid = options.validate();
+    if invalid != 0 {
+        return Err(invalid);
     }
     if n == 0 || *ranks == 0 || *ranks as usize > n {
         return Err(2);
@@ -186,24 +225,25 @@ fn moves_changed(ranks: u32) -> bool {
     ranks > 2
 }
 
-/// The same of the swaps. Request P1 cannot where every weight is 1: then a swap leaves both loads as they were.
-fn swaps_changed<T: PartialEq + From<u8>>(weights: &[T]) -> bool {
-    weights.iter().any(|w| *w != T::from(1))
+/// The same of the swaps. Request P1 cannot where every weight is 1: then a swap leaves both loads as they were. Request P9 cannot
+/// where its numbers are the defaults.
+fn swaps_changed<T: PartialEq + From<u8>>(weights: &[T], swapping: [u64; 2]) -> bool {
+    swapping != SWAPPING || weights.iter().any(|w| *w != T::from(1))
 }
 
 /// The same of a division.
-pub fn changed(ranks: u32, workloads: &[u32]) -> bool {
-    moves_changed(ranks) || swaps_changed(workloads)
+pub fn changed(question: &Question) -> bool {
+    moves_changed(question.ranks) || swaps_changed(&question.workloads, question.options.swapping())
 }
 
 /// What the Rust answers, its own 1 and 2 included, on lists that make a matrix.
 fn rust_partition(question: &Question) -> Result<Division, u32> {
-    let oracle = if changed(question.ranks, &question.workloads) { in_force::asked } else { unchanged::asked };
+    let oracle = if changed(question) { in_force::asked } else { unchanged::asked };
     oracle_partition(oracle, question)
 }
 
 /// A driver of multilevel.rs: unchanged, in force, or with a slip.
-pub type Asked = fn(&Csr32Matrix, &[usize], RankId, [u64; 4]) -> Result<Division, DistributedTopologyError>;
+pub type Asked = fn(&Csr32Matrix, &[usize], RankId, [u64; 6]) -> Result<Division, DistributedTopologyError>;
 
 pub fn oracle_partition(oracle: Asked, question: &Question) -> Result<Division, u32> {
     assert!(std::env::var_os("HYBIT_A6_F12_MERGE").is_none(), "HYBIT_A6_F12_MERGE must be unset");
@@ -216,16 +256,20 @@ pub fn oracle_partition(oracle: Asked, question: &Question) -> Result<Division, 
     oracle(&matrix, &workloads, *ranks, options.numbers()).map_err(|e| refusal(&e, n, *ranks))
 }
 
-/// The moves or the swaps of one level, of rows, weights, ranks, owners, imbalance and passes: the owners and the number of steps, or
-/// a refusal.
-pub type Refine = fn(&[Vec<usize>], &[usize], u32, &[u32], u32, usize) -> Result<(Vec<u32>, usize), u32>;
+/// The owners that the moves or the swaps of one level leave and the number of steps, or a refusal.
+type Refined = Result<(Vec<u32>, usize), u32>;
+/// The moves, of rows, weights, ranks, owners, imbalance and passes.
+pub type Moves = fn(&[Vec<usize>], &[usize], u32, &[u32], u32, usize) -> Refined;
+/// The swaps, of the same and a list length.
+pub type Swaps = fn(&[Vec<usize>], &[usize], u32, &[u32], u32, usize, usize) -> Refined;
 
 /// The moves that are expected among so many ranks.
-pub fn moves(ranks: u32) -> Refine {
+pub fn moves(ranks: u32) -> Moves {
     if moves_changed(ranks) { in_force::stages::refine_by_cut } else { stages::refine_by_cut }
 }
 
-/// The swaps that are expected of vertices with these weights.
-pub fn swaps(weights: &[usize]) -> Refine {
-    if swaps_changed(weights) { in_force::stages::refine_fine_pair_swaps } else { stages::refine_fine_pair_swaps }
+/// The swaps that are expected of vertices with these weights, with lists of this length.
+pub fn swaps(weights: &[usize], list_length: u64) -> Swaps {
+    let changed = swaps_changed(weights, [list_length, SWAPPING[1]]);
+    if changed { in_force::stages::refine_fine_pair_swaps } else { stages::refine_fine_pair_swaps }
 }

@@ -51,8 +51,8 @@ mod partition {
     }
 }
 
-/// The file as it stands. Its division and its swaps take no weights; `weighed` calls them as those of the oracle in force, where
-/// all weights are 1.
+/// The file as it stands. Its division and its swaps take no weights and no list length; `weighed` calls them as those of the
+/// oracle in force, where all weights are 1 and the list length is the default.
 #[allow(dead_code)]
 pub mod unchanged {
     include!(concat!(env!("RUST_SRC"), "/crates/hybit-distributed/src/multilevel.rs"));
@@ -73,14 +73,17 @@ pub mod unchanged {
         fn refine_fine_pair_swaps(
             matrix: &Csr32Matrix,
             weights: &[usize],
+            list_length: usize,
             assignment: &mut PartitionAssignment,
             imbalance_per_mille: u32,
             passes: usize,
         ) -> Result<usize, DistributedTopologyError> {
             assert!(weights.iter().all(|&w| w == 1), "the unchanged swaps take no weights");
+            assert_eq!(list_length as u64, crate::answers::SWAPPING[0], "the unchanged swaps take no list length");
             super::refine_fine_pair_swaps(matrix, assignment, imbalance_per_mille, passes)
         }
 
+        include!("four_options.rs");
         include!("asked.rs");
 
         pub mod stages {
@@ -94,6 +97,7 @@ pub mod unchanged {
 #[allow(dead_code)]
 pub mod in_force {
     include!(concat!(env!("OUT_DIR"), "/in_force.rs"));
+    include!("options.rs");
     include!("asked.rs");
 
     pub mod stages {
@@ -105,5 +109,14 @@ pub mod in_force {
 #[allow(dead_code)]
 pub mod p1_alone {
     include!(concat!(env!("OUT_DIR"), "/p1_alone.rs"));
+    include!("four_options.rs");
+    include!("asked.rs");
+}
+
+/// The oracle in force without request P9, which changes no division with its defaults.
+#[allow(dead_code)]
+pub mod before_p9 {
+    include!(concat!(env!("OUT_DIR"), "/before_p9.rs"));
+    include!("four_options.rs");
     include!("asked.rs");
 }

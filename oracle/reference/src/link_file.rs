@@ -13,7 +13,7 @@ pub struct Contents {
 }
 
 impl Contents {
-    /// The division that the file asks.
+    /// The division that the file asks: in a file both numbers of request P9 "keep their defaults".
     pub fn question(self) -> Question {
         let [_, _, ranks, options @ ..] = self.header;
         Question::new(self.site, ranks, Options::of(options.map(u64::from))).weighed(self.workloads)

@@ -1,5 +1,5 @@
 //! Sites to compare on: a graph by its links, as sound lent lists, and generators of many shapes; and divisions asked of them.
-use crate::answers::{MAX_WORKLOAD, Options};
+use crate::answers::{MAX_LIST_LENGTH, MAX_PASS_FACTOR, MAX_WORKLOAD, Options, SWAPPING};
 use crate::random::Random;
 use std::collections::BTreeSet;
 
@@ -95,8 +95,12 @@ impl Question {
 
     /// As `ask` reads it. The lists are sound.
     pub fn text(&self) -> String {
-        let first = [self.site.vertices() as u64, self.ranks.into()].into_iter().chain(self.options.numbers());
+        let first = [self.site.vertices() as u64, self.ranks.into()].into_iter().chain(self.options.filed());
         let mut text = first.map(|x| x.to_string()).collect::<Vec<_>>().join(" ");
+        if self.options.swapping() != SWAPPING {
+            let [length, factor] = self.options.swapping();
+            text += &format!("; swaps {length} {factor}");
+        }
         if self.workloads != vec![1; self.site.vertices()] {
             text += "; workloads";
             self.workloads.iter().for_each(|w| text += &format!(" {w}"));
@@ -335,14 +339,27 @@ fn spoil_numbers(random: &mut Random, site: &mut Site) {
     }
 }
 
-/// Options that a division takes, the small ones often.
+/// Options that a division takes, the small ones often, and half of the time with the default list length and pass factor.
 pub fn some_options(random: &mut Random) -> Options {
-    Options {
-        max_levels: random.pick(&[1, 2, 3, 12, 32]),
-        coarse_vertices_per_rank: random.pick(&[1, 1, 2, 3, 64, u64::MAX]),
-        imbalance_per_mille: random.pick(&[0, 30, 100, 200, 333, 334, 499, 500]),
-        refinement_passes: random.pick(&[1, 2, 3, 10, u64::MAX]),
-    }
+    let options = usual_options(random);
+    if random.once_in(2) { options } else { options.with(some_swapping(random)) }
+}
+
+/// The same with both defaults.
+pub fn usual_options(random: &mut Random) -> Options {
+    Options::of([
+        random.pick(&[1, 2, 3, 12, 32]),
+        random.pick(&[1, 1, 2, 3, 64, u64::MAX]),
+        random.pick(&[0, 30, 100, 200, 333, 334, 499, 500]),
+        random.pick(&[1, 2, 3, 10, u64::MAX]),
+    ])
+}
+
+/// A list length and a pass factor that a division takes, the small ones often.
+pub fn some_swapping(random: &mut Random) -> [u64; 2] {
+    let small = random.once_in(2);
+    let mut to = |most: u64| random.between(1, if small { 2 } else { most });
+    [to(MAX_LIST_LENGTH), to(MAX_PASS_FACTOR)]
 }
 
 /// Workloads that a division takes, all of one kind: any; small; equal; one heavy; the least and the most.

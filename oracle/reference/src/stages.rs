@@ -85,8 +85,11 @@ pub fn refine_fine_pair_swaps(
     owners: &[RankId],
     imbalance_per_mille: u32,
     passes: usize,
+    list_length: usize,
 ) -> Result<(Vec<RankId>, usize), u32> {
-    refined(rows, ranks, owners, |m, a| super::refine_fine_pair_swaps(m, weights, a, imbalance_per_mille, passes))
+    refined(rows, ranks, owners, |m, a| {
+        super::refine_fine_pair_swaps(m, weights, list_length, a, imbalance_per_mille, passes)
+    })
 }
 
 /// Of a coarse level a rank count too great is the 7 of too few groups.

@@ -72,7 +72,9 @@ pub fn trace(question: &Question) -> Trace {
     }
     let Ok(start) = trace.owners.clone() else { return trace };
     let (rows, weights) = &levels[0];
-    let swapped = stages::refine_fine_pair_swaps(rows, weights, ranks, &start, t, passes.saturating_mul(4));
+    let [length, factor] = options.swapping().map(|x| x as usize);
+    let swapped =
+        stages::refine_fine_pair_swaps(rows, weights, ranks, &start, t, passes.saturating_mul(factor), length);
     trace.owners = swapped.map(|(end, count)| {
         trace.swapped = Some(Moved { level: 0, start, end: end.clone(), count });
         end

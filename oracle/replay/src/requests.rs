@@ -43,12 +43,12 @@ fn draw(random: &mut Random, size: usize) -> Question {
     }
     let site = Site::new(site.vertices(), &links);
     let ranks = 1 + random.index(site.vertices().min(LIMITS[2] as usize)) as u32;
-    let options = Options {
-        max_levels: random.pick(&[1, 2, 3, 12]),
-        coarse_vertices_per_rank: random.pick(&[1, 1, 2, 3, 64, u32::MAX.into()]),
-        imbalance_per_mille: random.pick(&[0, 30, 100, 200, 333, 334, 499, 500]),
-        refinement_passes: random.pick(&[1, 1, 2, 3, 10]),
-    };
+    let options = Options::of([
+        random.pick(&[1, 2, 3, 12]),
+        random.pick(&[1, 1, 2, 3, 64, u32::MAX.into()]),
+        random.pick(&[0, 30, 100, 200, 333, 334, 499, 500]),
+        random.pick(&[1, 1, 2, 3, 10]),
+    ]);
     Question::new(site, ranks, options)
 }
 
@@ -60,11 +60,11 @@ fn draw_weighed(random: &mut Random, size: usize) -> Question {
     question.weighed(workloads)
 }
 
-/// The file that asks it, without workloads where all are 1.
+/// The file that asks it, without workloads where all are 1; the list length and the pass factor are the defaults, as in any file.
 fn file(question: &Question) -> Vec<u8> {
     let Question { site, workloads, ranks, options } = question;
     let mut header = [site.vertices() as u32, 0, *ranks, 0, 0, 0, 0];
-    header[3..].copy_from_slice(&options.numbers().map(|x| x as u32));
+    header[3..].copy_from_slice(&options.filed().map(|x| x as u32));
     let links: Vec<_> = site.links().iter().map(|&(a, b)| (a as u32, b as u32)).collect();
     let ones = workloads.iter().all(|&w| w == 1);
     file_of(header, &links, if ones { &[] } else { workloads })
@@ -116,7 +116,7 @@ pub fn answers(mut stdin: &[u8]) -> String {
 pub fn write(samples: Vec<(String, Vec<u8>)>, out: &Path) {
     let mut files = Vec::new();
     let mut text = String::from(
-        "# The requests of crates/replay\n\n`oracle/replay.sh` writes this page, `crates/replay/stdin` and `crates/replay/stdout`: requests by their place in the list, from 1 on, and what each is for. The answers are those of the oracle in force: the Rust with what document 02 asks (`reference/changes.rs`), and unchanged where no request can change the answer. A slip is a copy of it with a mistake (`slips.rs`), and each site named for it is one on which that copy answers otherwise.\n\n| requests | for |\n|---|---|\n",
+        "# The requests of crates/replay\n\n`oracle/replay.sh` writes this page, `crates/replay/stdin` and `crates/replay/stdout`: requests by their place in the list, from 1 on, and what each is for. The answers are those of the oracle in force: the Rust with what document 02 asks (`reference/changes.rs`), and unchanged where no request can change the answer. A slip is a copy of it with a mistake (`slips.rs`), and each site named for it is one on which that copy answers otherwise. A request is a link file, so the list length and the pass factor of request P9 are its defaults, 8 and 4.\n\n| requests | for |\n|---|---|\n",
     );
     for (name, file) in samples {
         files.push(file);

@@ -2,12 +2,12 @@
 //!
 //!     benchmark [--times NUMBER] [WORD..]
 //!
-//! Each row is a site, a number of ranks and options; the workloads are 1 unless its name says others. Both divide it in turn,
-//! NUMBER times (5 if not given; once where the Rust takes more than two seconds), and the least time of each counts. Owners, moves
-//! and cut are compared too. With words, only rows whose name has one of them run. The Rust gets its matrix and its weights ready
-//! made and allocates as it goes; the library gets its lists and workloads, which it tests, and slices that were lent to it before
-//! and hold what the run before left. Memory is what a division takes beside the site: the lent owners and work numbers, and the
-//! most that the Rust has allocated at one time, told by one more run that is not timed.
+//! Each row is a site, a number of ranks and options; the workloads are 1, and the swaps' lists of 8, unless its name says others.
+//! Both divide it in turn, NUMBER times (5 if not given; once where the Rust takes more than two seconds), and the least time of
+//! each counts. Owners, moves and cut are compared too. With words, only rows whose name has one of them run. The Rust gets its
+//! matrix and its weights ready made and allocates as it goes; the library gets its lists and workloads, which it tests, and
+//! slices that were lent to it before and hold what the run before left. Memory is what a division takes beside the site: the lent
+//! owners and work numbers, and the most that the Rust has allocated at one time, told by one more run that is not timed.
 use compare::bridge;
 use reference::answers::{Options, lent_needs};
 use reference::in_force::{self, abtm_multilevel_partition};
@@ -129,8 +129,7 @@ fn measure(row: &Row, times: u32) -> Taken {
 fn rows() -> Vec<Row> {
     let n = 16_384;
     let mut random = Random::new(1);
-    let default =
-        Options { max_levels: 12, coarse_vertices_per_rank: 64, imbalance_per_mille: 30, refinement_passes: 2 };
+    let default = Options::of([12, 64, 30, 2]);
     let shapes = [
         ("grid", sites::grid(128, 128)),
         ("geometric", sites::geometric(&mut random, n, 12_700)),
@@ -156,7 +155,9 @@ fn rows() -> Vec<Row> {
         ..default
     };
     rows.push(row("forced moves", forced::moves(64, 256), 64, forced_options(1)));
-    rows.push(row("forced swaps", forced::swaps(64, 256), 64, forced_options(0)));
+    let swaps = forced::swaps(64, 256);
+    rows.push(row("forced swaps", swaps.clone(), 64, forced_options(0)));
+    rows.push(row("forced swaps, lists of 12", swaps, 64, forced_options(0).with([12, 8])));
     let mut weighed = row("grid, workloads 1 to 10,000", sites::grid(128, 128), 8, default);
     weighed.asked.workloads = (0..n).map(|_| random.between(1, 10_000) as u32).collect();
     rows.push(weighed);
