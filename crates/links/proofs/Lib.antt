@@ -2,6 +2,7 @@ pub mod ListLaws
 pub mod PartLaws
 pub mod BestLaws
 pub mod SoundLaws
+pub mod CutLaws
 pub mod RowLaws
 pub mod HalvingLaws
 pub mod CauseLaws

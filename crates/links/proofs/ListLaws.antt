@@ -182,6 +182,10 @@ module _ {A : Type 0} where
   any-counts p [] e = absurd (false≢true e)
   any-counts p (x ∷ xs) e = split (p x) (λ q. omega (arith, count-is p x xs true q)) (λ q. omega (arith, count-is p x xs false q, any-counts p xs (rw q at e)))
 
+  pub count-ext : (p q : A → Bool) → ((x : A) → p x ≡ q x) → (xs : List A) → count p xs ≡ count q xs
+  count-ext p q e [] = refl
+  count-ext p q e (x ∷ xs) = omega (arith, count-is p x xs (q x) (e x), count-cons q x xs, count-ext p q e xs)
+
   pub count-append : (p : A → Bool) (xs ys : List A) → count p (xs ++ ys) ≡ count p xs + count p ys
   count-append p [] ys = omega arith
   count-append p (x ∷ xs) ys = omega (arith, count-cons p x (xs ++ ys), count-cons p x xs, count-append p xs ys)
@@ -248,6 +252,15 @@ module _ {A B : Type 0} (P : B → Type 0) where
   pub all-concat : (f : A → List B) (xs : List A) → All (λ x. All P (f x)) xs → All P (concatMap f xs)
   all-concat f [] a = tt
   all-concat f (x ∷ xs) a = all-append P (f x) (concatMap f xs) (a .0) (all-concat f xs (a .1))
+
+-- of those that q keeps, those that p passes by what f makes of them
+pub count-kept : {A B : Type 0} (p : B → Bool) (f : A → B) (q : A → Bool) (xs : List A) → count p (map f (filter q xs)) ≡ count (λ x. q x && p (f x)) xs
+count-kept p f q [] = refl
+count-kept p f q (x ∷ xs) = split (q x)
+    (λ e.
+    let one : count p (map f (filter q (x ∷ xs))) ≡ tally (p (f x)) + count p (map f (filter q xs)) = rw e (count-cons p (f x) (map f (filter q xs))) in
+    omega (arith, one, count-kept p f q xs, count-is (λ x. q x && p (f x)) x xs (p (f x)) (rw e)))
+    (λ e. rw e (count-kept p f q xs))
 
 -- i ≤ x < i + n
 pub all-range : (P : ℕ → Type 0) (i n : ℕ) → ((x : ℕ) → i ≤ x → x < i + n → P x) → All P (range i n)
@@ -379,6 +392,11 @@ total-point i (suc n) v f h k = split (eqb i v)
     (λ p. let d = eqb-false i v p in
     rw (p, total-point (suc i) n v f (omega arith) (omega arith)) (omega arith))
 
+pub sum-total : (f : ℕ → ℕ) (i n : ℕ) → sum (map f (range i n)) ≡ total i n f
+unfolding total
+sum-total f i zero = refl
+sum-total f i (suc n) = omega (arith, sum-total f (suc i) n)
+
 pub count-concat : {A : Type 0} (p : A → Bool) (f : ℕ → List A) (i n : ℕ) → count p (concatMap f (range i n)) ≡ total i n (λ u. count p (f u))
 unfolding total
 count-concat p f i zero = refl
@@ -394,6 +412,22 @@ pub total-swap : (i m j n : ℕ) (f : ℕ → ℕ → ℕ) → total i m (λ x. 
 unfolding total
 total-swap i zero j n f = sym (total-zero j n (λ y. 0) (λ y h k. refl))
 total-swap i (suc m) j n f = omega (arith, total-swap (suc i) m j n f, total-add j n (f i) (λ y. total (suc i) m (λ x. f x y)))
+
+-- counted over a list, or over all numbers with how often each stands in it
+pub counted : (t : ℕ → Bool) (n : ℕ) (l : List ℕ) → All (λ u. u < n) l → total 0 n (λ u. cond (t u) (count (eqb u) l) 0) ≡ count t l
+counted t n [] b = total-zero 0 n _ (λ u h k. split (t u) (λ p. rw p) (λ p. rw p))
+counted t n (w ∷ ws) b =
+    let here : ℕ → ℕ = λ u. cond (eqb u w) (tally (t u)) 0 in
+    let rest : ℕ → ℕ = λ u. cond (t u) (count (eqb u) ws) 0 in
+    total-ext 0 n _ (λ u. here u + rest u) (λ u h k.
+    let e = count-cons (eqb u) w ws in
+    split (t u)
+    (λ p. split (eqb u w) (λ q. simp (p, q) (omega arith)) (λ q. simp (p, q) (omega arith)))
+    (λ p. split (eqb u w) (λ q. simp (p, q)) (λ q. simp (p, q))))
+    ∙ total-add 0 n here rest
+    ∙ ap (λ (x : ℕ). x + total 0 n rest) (total-point 0 n w (λ u. tally (t u)) (omega arith) (omega (arith, b .0)))
+    ∙ ap (λ (x : ℕ). tally (t w) + x) (counted t n ws (b .1))
+    ∙ sym (count-cons t w ws)
 
 pub sum-ones : (n : ℕ) → sum (replicate n 1) ≡ n
 sum-ones zero = refl

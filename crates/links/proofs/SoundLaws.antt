@@ -1,6 +1,6 @@
 -- Laws of sound rows: below their number, strictly rising, self-free, symmetric. The list test leaves such. Assumes nothing.
 use Prim.Native.Nat.{ℕ, zero, suc, _+_, _-_, _≤_, _<_}
-use mathlib.Core.Path.{_≡_, refl, sym}
+use mathlib.Core.Path.{_≡_, refl, sym, ap, _∙_}
 use mathlib.Core.Bool.{Bool, true, false, not, _&&_, _||_, false≢true}
 use mathlib.Core.List.{List, [], _∷_}
 use native.Mathlib.Omega.{arith}
@@ -30,6 +30,16 @@ occurs u (a ∷ l) r = split (all (ltb a) l)
     simp (p, z))
     (λ p. rw p (occurs u l (rw q at r))))
     (λ q. absurd (false≢true (rw q at r)))
+
+-- v stands in u's row as often as u in v's
+pub same-links
+    : (rows : List (List ℕ))
+    → Sound rows
+    → (u v : ℕ)
+    → u < length rows
+    → v < length rows
+    → count (eqb v) (row rows u) ≡ count (eqb u) (row rows v)
+same-links rows s u v h k = occurs v (row rows u) (s .rises u h) ∙ ap tally (s .symmetric u v h k) ∙ sym (occurs u (row rows v) (s .rises v k))
 
 -- an entry of v's row that is below n, not v, and names v too
 abbrev goodEntry : List (List ℕ) → ℕ → ℕ → Bool

@@ -253,7 +253,21 @@ demand3 c = split (eqb (earlyCause c) 0)
     (λ q. let g = tested c (eqb-true (earlyCause c) 0 q) in rw q (worked c g (trace c) (solved c g)))
     (λ q. rw q (untouched c (earlyCause c) (early-number c (eqb-false (earlyCause c) 0 q))))
 
--- ---- refusals
+-- ---- how a call ends
+
+-- a call that is accepted has passed the tests, and its owners and stats are its trace's
+pub divided-by
+    : (c : Call) (owners : List ℕ) (s : AbtmMultilevelStats)
+    → division c .outcome ≡ divided owners s
+    → (earlyCause c ≡ 0) × (owners ≡ trace c .owners) × (s ≡ statsOf (siteRows c) (c .ranks) (keptSteps c) (trace c))
+unfolding division abtmMultilevelPartition
+divided-by c owners s e = split (eqb (earlyCause c) 0)
+    (λ q.
+    let t = trace c in
+    let stats = statsOf (siteRows c) (c .ranks) (keptSteps c) t in
+    let d = divided-of (eqb (t .refusal) 0) (t .owners) owners s stats (t .refusal) (rw q at e) in
+    (eqb-true (earlyCause c) 0 q, d .1, d .2))
+    (λ q. let z : refused (earlyCause c) ≡ divided owners s = rw q at e in let y : _≡_ {A = ℕ} 0 1 = cc in absurd (omega arith))
 
 -- a call's refusal is its early cause, or else its trace's
 pub refused-by

@@ -7,6 +7,7 @@ pub mod PeopledLaws
 pub mod CoarseningLaws
 pub mod DivisionLaws
 pub mod Demand3Laws
+pub mod CutLaws
 pub mod NineLaws
 pub mod SiteLaws
 pub mod FileWorkloadLaws

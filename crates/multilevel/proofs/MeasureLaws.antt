@@ -1,5 +1,5 @@
 -- Laws of the cut and the volume: what is left to count, one vertex more of a row, and the volume counted vertex by vertex. Assumes nothing.
-use Prim.Native.Nat.{ℕ, zero, suc, _+_, _-_, _*_, _≤_, _<_}
+use Prim.Native.Nat.{ℕ, suc, _+_, _-_, _*_, _≤_, _<_}
 use mathlib.Core.Path.{_≡_, refl, sym, ap, _∙_}
 use mathlib.Core.Bool.{Bool, true, false, not, _&&_, _||_, cond}
 use mathlib.Core.List.{List, [], _∷_, map}
@@ -9,10 +9,10 @@ use lib.ListN.{length, set, take, drop, length-map}
 use lib.Seq.{take-all, getD-set-same, getD-set-other}
 use lib.Dec.{eqb}
 use borrow.Author.Tests.{eq-eqb, ne-eqb, eqb-true, eqb-false, not-true, not-false}
-use Rattle.links.specs.Lists.{at, any, range, sum, elem}
+use Rattle.links.specs.Lists.{at, any, range, elem}
 use Rattle.links.specs.Parts.{part, Kept}
 use Rattle.links.specs.Graph.{row, rowsOf, neighborsOf, vertices, cutEntries, foreignNeighbors, volume, Sound}
-use Rattle.links.proofs.ListLaws.{split, eqb-sym, and-l, and-r, and-i, or-true, or-false, iff-eq, tally, count, count-length, count-drop, all-in, all-range, length-range, any-of, to-any, elem-range, elem-map, elem-take, none-filter, total, total-ext, total-add, total-point, and-false, and-true, count-range, total-swap}
+use Rattle.links.proofs.ListLaws.{split, eqb-sym, and-l, and-r, and-i, or-true, or-false, iff-eq, tally, count, count-length, count-drop, all-in, all-range, length-range, any-of, to-any, elem-range, elem-map, elem-take, none-filter, total, total-ext, total-add, total-point, sum-total, and-false, and-true, count-range, total-swap}
 use Rattle.links.proofs.RangeLaws.{filter-ext}
 use Rattle.links.proofs.PartLaws.{length-part, getD-part, kept-refl, kept-trans, kept-set}
 use Rattle.links.proofs.RowLaws.{all-place, length-rows, row-query, length-row, offsets-fit}
@@ -24,11 +24,6 @@ use Rattle.multilevel.specs.Measure.{Below, foreignIn, Owned, otherRanks
 use Rattle.stages.proofs.LevelLaws.{length-neighbors, length-owners, count-vertices, all-vertices, ready-kept, neighbors-below}
 
 -- ---- sums over a range
-
-sum-total : (f : ℕ → ℕ) (i n : ℕ) → sum (map f (range i n)) ≡ total i n f
-unfolding total
-sum-total f i zero = refl
-sum-total f i (suc n) = omega (arith, sum-total f (suc i) n)
 
 -- what is left of a sum, as a loop meets it
 pub total-left : (f : ℕ → ℕ) (v n : ℕ) → v < n → total v (n - v) f ≡ f v + total (v + 1) (n - (v + 1)) f

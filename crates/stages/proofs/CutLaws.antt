@@ -2,18 +2,19 @@
 use Prim.Native.Nat.{ℕ, zero, suc, _+_, _-_, _≤_, _<_}
 use mathlib.Core.Path.{_≡_, refl, sym, ap, _∙_}
 use mathlib.Core.Logic.{_≢_}
-use mathlib.Core.Bool.{Bool, true, false, not, _&&_, _||_, cond, true≢false}
+use mathlib.Core.Bool.{Bool, true, false, not, _&&_, _||_, cond}
 use mathlib.Core.List.{List, [], _∷_, map}
 use native.Mathlib.Omega.{arith}
 use lib.ListN.{length, getD, set, length-map, length-set}
 use lib.Seq.{getD-set-other, getD-set-same}
 use lib.Dec.{ltb, eqb}
-use borrow.Author.Tests.{eq-eqb, ne-eqb, eqb-true, eqb-false, lt-ltb, le-ltb, ltb-true, ltb-false}
-use Rattle.links.specs.Lists.{at, filter, sum, elem, All}
+use borrow.Author.Tests.{eq-eqb, ne-eqb, eqb-true, eqb-false, le-ltb, ltb-true}
+use Rattle.links.specs.Lists.{at, filter, sum, All}
 use Rattle.links.specs.Graph.{row, vertices, degree, vertexCount, rowsOf, Sound, SoundLists, linksIn, linksTo, links, isCut, cutLinks}
 use Rattle.stages.specs.Moves.{Step, move, swap, after, linked, gain}
-use Rattle.links.proofs.ListLaws.{split, eqb-sym, cond-zero, tally, count, count-cons, count-is, count-length, all-kept, to-all, all-map, all-concat, total, total-ext, total-add, total-zero, total-point, count-concat, or-false}
-use Rattle.links.proofs.SoundLaws.{occurs}
+use Rattle.links.proofs.ListLaws.{split, eqb-sym, cond-zero, and-false, tally, count, count-cons, count-is, count-length, all-kept, to-all, all-map, all-concat, total, total-ext, total-add, total-point, count-kept, count-concat, counted, or-false}
+use Rattle.links.proofs.SoundLaws.{occurs, same-links}
+use Rattle.links.proofs.CutLaws.{later, earlier, both-sides}
 use Rattle.links.proofs.RowLaws.{length-rows, length-row}
 
 -- ---- one link, and a list of links
@@ -75,31 +76,23 @@ module _ (owners : List ℕ) (v r : ℕ) (h : v < length owners) where
 
 -- ---- v's links counted over all links are v's links counted over its own row
 
+abbrev owns : List ℕ → ℕ → ℕ → Bool
+owns own c w = eqb (at own w) c
+
 module _ (own : List ℕ) (v c : ℕ) where
-  -- those of u's links, each counted at its lower end, that are at v and whose other end c owns
-  touch : ℕ → List ℕ → ℕ
-  touch u r = count (ends own v c) (map (λ w. (u, w)) (filter (ltb u) r))
+  -- of u's links, each counted at its lower end, those at v whose other end c owns
+  abbrev touch : ℕ → ℕ → Bool
+  touch u w = ltb u w && ends own v c (u, w)
 
-  touch-cons : (u w : ℕ) (ws : List ℕ) → touch u (w ∷ ws) ≡ cond (ltb u w) (tally (ends own v c (u, w))) 0 + touch u ws
-  unfolding touch
-  touch-cons u w ws = split (ltb u w)
-      (λ p. rw p (count-cons (ends own v c) (u, w) (map (λ w. (u, w)) (filter (ltb u) ws))))
-      (λ p. rw p (omega arith))
-
-  -- those of v's row that come later, those that come earlier
-  abbrev later : ℕ → Bool
-  later w = ltb v w && eqb (at own w) c
-
-  abbrev earlier : ℕ → Bool
-  earlier w = ltb w v && eqb (at own w) c
-
-  touch-row : (u : ℕ) (r : List ℕ) → touch u r ≡ cond (eqb u v) (count later r) 0 + cond (earlier u) (count (eqb v) r) 0
-  touch-row u [] = unfold touch in simp cond-zero
+  touch-row
+      : (u : ℕ) (r : List ℕ)
+      → count (touch u) r ≡ cond (eqb u v) (count (later v (owns own c)) r) 0 + cond (earlier v (owns own c) u) (count (eqb v) r) 0
+  touch-row u [] = simp cond-zero
   touch-row u (w ∷ ws) =
       let ih = touch-row u ws in
-      let a = count-cons later w ws in
+      let a = count-cons (later v (owns own c)) w ws in
       let b = count-cons (eqb v) w ws in
-      touch-cons u w ws ∙ split (eqb u v)
+      count-cons (touch u) w ws ∙ split (eqb u v)
       (λ p. let e : u ≡ v = eqb-true u v p in
       let q : ltb u v ≡ false = le-ltb u v (omega arith) in
       let k : ltb u w ≡ ltb v w = ap (λ (x : ℕ). ltb x w) e in
@@ -117,62 +110,29 @@ module _ (own : List ℕ) (v c : ℕ) where
       (λ b. simp (p, r, r′, k, a, b) (omega (arith, simp (p, a, b) at ih)))
       (λ b. simp (p, r, r′, k, a, b) (omega (arith, simp (p, a, b) at ih))))
       (λ a. simp (p, r, r′, k, a) (omega (arith, simp (p, a) at ih))))
-      (λ r. let r′ : eqb v w ≡ false = eqb-sym v w ∙ r in simp (p, r, r′, cond-zero) (omega (arith, simp p at ih))))
-
-  -- in v's own row, those later and those earlier are all
-  both : (r : List ℕ) → elem v r ≡ false → count later r + count earlier r ≡ linksIn r own c
-  unfolding linksIn
-  both [] h = refl
-  both (w ∷ ws) h = split (eqb v w)
-      (λ d. absurd (true≢false (rw d at h)))
-      (λ d. let ih = both ws (rw d at h) in
-      let n = eqb-false v w d in
-      let e = count-cons (λ u. eqb (at own u) c) w ws in
-      let o = eqb (at own w) c in
-      split (ltb v w)
-      (λ p. let q : ltb w v ≡ false = le-ltb w v (omega (arith, ltb-true v w p)) in
-      omega (arith, ih, count-is later w ws o (rw p), count-is earlier w ws false (rw q)))
-      (λ p. let q : ltb w v ≡ true = lt-ltb w v (omega (arith, ltb-false v w p)) in
-      omega (arith, ih, count-is later w ws false (rw p), count-is earlier w ws o (rw q))))
-
--- counted over a list, or over all numbers with how often each stands in it
-counted : (t : ℕ → Bool) (n : ℕ) (l : List ℕ) → All (λ u. u < n) l → total 0 n (λ u. cond (t u) (count (eqb u) l) 0) ≡ count t l
-counted t n [] b = total-zero 0 n _ (λ u h k. split (t u) (λ p. rw p) (λ p. rw p))
-counted t n (w ∷ ws) b =
-    let here : ℕ → ℕ = λ u. cond (eqb u w) (tally (t u)) 0 in
-    let rest : ℕ → ℕ = λ u. cond (t u) (count (eqb u) ws) 0 in
-    total-ext 0 n _ (λ u. here u + rest u) (λ u h k.
-    let e = count-cons (eqb u) w ws in
-    split (t u)
-    (λ p. split (eqb u w) (λ q. simp (p, q) (omega arith)) (λ q. simp (p, q) (omega arith)))
-    (λ p. split (eqb u w) (λ q. simp (p, q)) (λ q. simp (p, q))))
-    ∙ total-add 0 n here rest
-    ∙ ap (λ (x : ℕ). x + total 0 n rest) (total-point 0 n w (λ u. tally (t u)) (omega arith) (omega (arith, b .0)))
-    ∙ ap (λ (x : ℕ). tally (t w) + x) (counted t n ws (b .1))
-    ∙ sym (count-cons t w ws)
+      (λ r. let r′ : eqb v w ≡ false = eqb-sym v w ∙ r in simp (p, r, r′, and-false (ltb u w)) (omega (arith, simp p at ih))))
 
 -- v's links, each written down at its lower end
 abbrev linksAt : List (List ℕ) → ℕ → List (ℕ × ℕ)
 linksAt rows v = map (λ u. (v, u)) (filter (ltb v) (row rows v))
 
 module _ (rows : List (List ℕ)) (s : Sound rows) where
-  -- v stands in u's row as often as u in v's
-  same-links : (u v : ℕ) → u < length rows → v < length rows → count (eqb v) (row rows u) ≡ count (eqb u) (row rows v)
-  same-links u v h k = occurs v (row rows u) (s .rises u h) ∙ ap tally (s .symmetric u v h k) ∙ sym (occurs u (row rows v) (s .rises v k))
-
   bridge : (own : List ℕ) (v c : ℕ) → v < length rows → count (ends own v c) (links rows) ≡ linksTo rows own v c
-  unfolding links touch
+  unfolding links linksIn
   bridge own v c h =
       let n = length rows in
-      let upward : ℕ → ℕ = λ u. cond (eqb u v) (count (later own v c) (row rows u)) 0 in
-      let downward : ℕ → ℕ = λ u. cond (earlier own v c u) (count (eqb u) (row rows v)) 0 in
+      let upward : ℕ → ℕ = λ u. cond (eqb u v) (count (later v (owns own c)) (row rows u)) 0 in
+      let downward : ℕ → ℕ = λ u. cond (earlier v (owns own c) u) (count (eqb u) (row rows v)) 0 in
       count-concat (ends own v c) (linksAt rows) 0 n
       ∙ total-ext 0 n _ (λ u. upward u + downward u)
-      (λ u k l. touch-row own v c u (row rows u) ∙ ap (λ (x : ℕ). upward u + cond (earlier own v c u) x 0) (same-links u v (omega arith) h))
+      (λ u k l.
+      count-kept (ends own v c) (λ w. (u, w)) (ltb u) (row rows u)
+      ∙ touch-row own v c u (row rows u)
+      ∙ ap (λ (x : ℕ). upward u + cond (earlier v (owns own c) u) x 0) (same-links rows s u v (omega arith) h))
       ∙ total-add 0 n upward downward
-      ∙ ap (λ (x : ℕ). x + total 0 n downward) (total-point 0 n v (λ u. count (later own v c) (row rows u)) (omega arith) (omega arith))
-      ∙ ap (λ (x : ℕ). count (later own v c) (row rows v) + x) (counted (earlier own v c) n (row rows v) (s .below v h))
-      ∙ both own v c (row rows v) (s .selfless v h)
+      ∙ ap (λ (x : ℕ). x + total 0 n downward) (total-point 0 n v (λ u. count (later v (owns own c)) (row rows u)) (omega arith) (omega arith))
+      ∙ ap (λ (x : ℕ). count (later v (owns own c)) (row rows v) + x) (counted (earlier v (owns own c)) n (row rows v) (s .below v h))
+      ∙ both-sides v (owns own c) (row rows v) (s .selfless v h)
 
   two-ends : All (λ l. l .0 ≢ l .1) (links rows)
   unfolding links
