@@ -1,5 +1,5 @@
 pub mod TextLaws
 pub mod LineLaws
 pub mod ShareLaws
-pub mod CutLaws
+pub mod PrefixLaws
 pub mod LentLaws

@@ -13,9 +13,9 @@ use Rattle.multilevel.specs.File.{number, overProgramLimits, vertexCountOf, lin
 use Rattle.listing.specs.Listing.{refusalText}
 use Rattle.listing.specs.Share.{fileText}
 
-cut-number : (b : List ℕ) (n i : ℕ) → 4 * i + 3 < n → number (take n b) i ≡ number b i
+prefix-number : (b : List ℕ) (n i : ℕ) → 4 * i + 3 < n → number (take n b) i ≡ number b i
 unfolding number
-cut-number b n i h =
+prefix-number b n i h =
     rw (
       getD-take n b (4 * i) 0 (omega arith),
       getD-take n b (4 * i + 1) 0 (omega arith),
@@ -42,17 +42,17 @@ long-text : (b : List ℕ) → 1309 ≤ length b → fileText b ≡ refusalText 
 unfolding fileText
 long-text b h = rw (long-cause b h) (split (overProgramLimits b) (λ p. rw p) (λ p. rw p))
 
-cut-limits : (b : List ℕ) → overProgramLimits (take 1309 b) ≡ overProgramLimits b
+prefix-limits : (b : List ℕ) → overProgramLimits (take 1309 b) ≡ overProgramLimits b
 unfolding overProgramLimits
-cut-limits b =
+prefix-limits b =
     rw (
-      cut-number b 1309 0 (omega arith),
-      cut-number b 1309 1 (omega arith),
-      cut-number b 1309 2 (omega arith),
-      cut-number b 1309 3 (omega arith),
+      prefix-number b 1309 0 (omega arith),
+      prefix-number b 1309 1 (omega arith),
+      prefix-number b 1309 2 (omega arith),
+      prefix-number b 1309 3 (omega arith),
     )
 
-pub cut-text : (b : List ℕ) → 1309 ≤ length b → fileText (take 1309 b) ≡ fileText b
-cut-text b h =
+pub prefix-text : (b : List ℕ) → 1309 ≤ length b → fileText (take 1309 b) ≡ fileText b
+prefix-text b h =
     let l : 1309 ≤ length (take 1309 b) = rw (length-take-le 1309 b h) (omega arith) in
-    rw (long-text b h, long-text (take 1309 b) l, cut-limits b)
+    rw (long-text b h, long-text (take 1309 b) l, prefix-limits b)
