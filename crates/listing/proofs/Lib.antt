@@ -3,3 +3,4 @@ pub mod LineLaws
 pub mod ShareLaws
 pub mod PrefixLaws
 pub mod LentLaws
+pub mod ExampleLaws

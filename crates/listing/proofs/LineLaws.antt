@@ -53,19 +53,19 @@ coarse-text s =
     (decimal (s .«singleton_aggregates»))
 
 pub fine-text
-    : (s : AbtmMultilevelStats)
+    : (cut : ℕ) (s : AbtmMultilevelStats)
     → (((bytes " restarts " ++ decimal (s .«coarse_restarts»)) ++ (bytes " moves " ++ decimal (s .«refinement_moves»)))
-    ++ (bytes " cut " ++ decimal (s .«final_cut_nnz»)))
+    ++ (bytes " cut " ++ decimal cut))
     ++ (bytes " volume " ++ decimal (s .«final_communication_volume»))
-    ≡ fineText s
+    ≡ fineText cut s
 unfolding fineText
-fine-text s =
+fine-text cut s =
     four
     (bytes " restarts ")
     (decimal (s .«coarse_restarts»))
     (bytes " moves ")
     (decimal (s .«refinement_moves»))
     (bytes " cut ")
-    (decimal (s .«final_cut_nnz»))
+    (decimal cut)
     (bytes " volume ")
     (decimal (s .«final_communication_volume»))

@@ -1,5 +1,5 @@
 -- Laws on the way from a link file to its text: what the reader and the division told, as texts. Assumes nothing.
-use Prim.Native.Nat.{ℕ, _+_, _-_, _*_, _≤_}
+use Prim.Native.Nat.{ℕ, _+_, _*_, _/_, _≤_}
 use mathlib.Core.Path.{_≡_, sym, ap, _∙_}
 use mathlib.Core.List.{List, _++_}
 use native.Mathlib.Omega.{arith}
@@ -13,6 +13,7 @@ use Rattle.links.proofs.ListLaws.{split}
 use Rattle.links.proofs.PackLaws.{length-offsets}
 use Rattle.multilevel.specs.Causes.{Call}
 use Rattle.multilevel.specs.Division.{Outcome, refused, divided, division}
+use Rattle.multilevel.specs.Demand3.{siteRows}
 use Rattle.multilevel.specs.Contract.{answerNumber, answerOf, ownersAfter, Partitioned}
 use Rattle.multilevel.specs.File.{sizesOf, vertexCountOf, linkCountOf, fileRows, fileOffsets, fileNeighbors, fileWorkloads, fileCause, readerCause, readNumber, FileRead}
 use Rattle.multilevel.specs.declared.file.Sizes.{Sizes}
@@ -20,6 +21,7 @@ use Rattle.multilevel.specs.declared.file.Read.{Read}
 use Rattle.multilevel.specs.declared.file.Read.the-variants.{Site, Refused}
 use Rattle.multilevel.specs.declared.driver.Answer.{Answer}
 use Rattle.multilevel.specs.declared.driver.Answer.the-variants.{Divided, Refused as Declined}
+use Rattle.multilevel.proofs.CutLaws.{half-told}
 use Rattle.multilevel.proofs.FileLaws.{accepted}
 use Rattle.multilevel.proofs.FileRowLaws.{length-file, length-entries}
 use Rattle.multilevel.proofs.FileWorkloadLaws.{length-workloads}
@@ -77,13 +79,19 @@ module _ {c : Call} {owners owners′ work work′ : List ℕ} {a : Answer} (p :
   pub refusal-told : (n number : ℕ) → a ≡ Declined n → number ≡ answerNumber a → division c .outcome ≡ refused number
   refusal-told n number e k = rw (k, e) (outcome-refused (division c .outcome) n (sym (p .answer-is) ∙ e))
 
-pub divided-text : (k : ℕ) (o : Outcome) (w : List ℕ) (s : AbtmMultilevelStats) → o ≡ divided w s → siteText k w s ≡ outcomeText k o
-unfolding outcomeText
-divided-text k o w s e = rw e
+module _ (c : Call) where
+  -- with half of the stats' cut, which is the cut links
+  pub divided-text
+      : (w : List ℕ) (s : AbtmMultilevelStats)
+      → division c .outcome ≡ divided w s
+      → siteText (c .ranks) w (s .«final_cut_nnz» / 2) s ≡ outcomeText (siteRows c) (c .ranks) (division c .outcome)
+  unfolding outcomeText
+  divided-text w s e = rw (e, half-told c w s e)
 
-pub refused-text : (k : ℕ) (o : Outcome) (number : ℕ) → o ≡ refused number → refusalText number ≡ outcomeText k o
-unfolding outcomeText
-refused-text k o number e = rw e
+  pub refused-text
+      : (number : ℕ) → division c .outcome ≡ refused number → refusalText number ≡ outcomeText (siteRows c) (c .ranks) (division c .outcome)
+  unfolding outcomeText
+  refused-text number e = rw e
 
 -- ---- what the reader told
 

@@ -19,7 +19,7 @@ lineText v r = decimal v ++ bytes " " ++ decimal r ++ bytes "\n"
 unfoldable pub linesText : List ℕ → ℕ → List ℕ
 linesText owners i = concatMap (λ v. lineText v (at owners v)) (range 0 i)
 
--- `levels 0 coarsest 4 pairs 0 singles 0 restarts 0 moves 0 cut 2 volume 2`
+-- `levels 0 coarsest 4 pairs 0 singles 0 restarts 0 moves 0 cut 1 volume 2`
 unfoldable pub coarseText : AbtmMultilevelStats → List ℕ
 coarseText s =
     bytes "levels "
@@ -31,23 +31,24 @@ coarseText s =
     ++ bytes " singles "
     ++ decimal (s .«singleton_aggregates»)
 
-unfoldable pub fineText : AbtmMultilevelStats → List ℕ
-fineText s =
+-- the first argument stands behind `cut`
+unfoldable pub fineText : ℕ → AbtmMultilevelStats → List ℕ
+fineText cut s =
     bytes " restarts "
     ++ decimal (s .«coarse_restarts»)
     ++ bytes " moves "
     ++ decimal (s .«refinement_moves»)
     ++ bytes " cut "
-    ++ decimal (s .«final_cut_nnz»)
+    ++ decimal cut
     ++ bytes " volume "
     ++ decimal (s .«final_communication_volume»)
 
-unfoldable pub statsText : AbtmMultilevelStats → List ℕ
-statsText s = coarseText s ++ fineText s ++ bytes "\n"
+unfoldable pub statsText : ℕ → AbtmMultilevelStats → List ℕ
+statsText cut s = coarseText s ++ fineText cut s ++ bytes "\n"
 
 -- the whole listing of a division
-unfoldable pub siteText : ℕ → List ℕ → AbtmMultilevelStats → List ℕ
-siteText k owners s = headText (length owners) k ++ linesText owners (length owners) ++ statsText s
+unfoldable pub siteText : ℕ → List ℕ → ℕ → AbtmMultilevelStats → List ℕ
+siteText k owners cut s = headText (length owners) k ++ linesText owners (length owners) ++ statsText cut s
 
 -- `refused 8`
 unfoldable pub refusalText : ℕ → List ℕ

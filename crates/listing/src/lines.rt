@@ -1,6 +1,6 @@
 // The lines of a listing: its head, a line for each vertex, the stats; and the line of a refusal.
 ghost use mathlib.Core.Path.{_≡_};
-ghost use Prim.Native.Nat.{_+_, _*_, _≤_};
+ghost use Prim.Native.Nat.{_+_, _*_, _/_, _≤_};
 ghost use lib.ListN.{length};
 ghost use lib.Dec.{leb};
 ghost use Rattle.multilevel.specs.File.{Written};
@@ -57,20 +57,21 @@ fn put_coarse(text: &mut [u8], at: usize, s: AbtmMultilevelStats) -> usize
     put_field(text, c, b" singles ", s.singleton_aggregates)
 }
 
+// Behind `cut` stands half of the stats' cut, which counts each cut link from both ends.
 fn put_fine(text: &mut [u8], at: usize, s: AbtmMultilevelStats) -> usize
     requires { ⌜ at + 110 ≤ length (now text) ⌝ }
-    ensures { λ r. ⌜ Written (fineText s) at (now (text .entry)) (now (text .exit)) r ⌝ }
+    ensures { λ r. ⌜ Written (fineText (s .«final_cut_nnz» / 2) s) at (now (text .entry)) (now (text .exit)) r ⌝ }
     ensures { λ r. ⌜ r ≤ at + 110 ⌝ }
 {
     let a = put_field(text, at, b" restarts ", s.coarse_restarts);
     let b = put_field(text, a, b" moves ", s.refinement_moves);
-    let c = put_field(text, b, b" cut ", s.final_cut_nnz);
+    let c = put_field(text, b, b" cut ", s.final_cut_nnz / 2);
     put_field(text, c, b" volume ", s.final_communication_volume)
 }
 
 fn put_stats(text: &mut [u8], at: usize, s: AbtmMultilevelStats) -> usize
     requires { ⌜ at + 224 ≤ length (now text) ⌝ }
-    ensures { λ r. ⌜ Written (statsText s) at (now (text .entry)) (now (text .exit)) r ⌝ }
+    ensures { λ r. ⌜ Written (statsText (s .«final_cut_nnz» / 2) s) at (now (text .entry)) (now (text .exit)) r ⌝ }
     ensures { λ r. ⌜ r ≤ at + 224 ⌝ }
 {
     let a = put_coarse(text, at, s);
@@ -89,9 +90,10 @@ fn has_room(bytes: usize, n: usize) -> bool
 }
 
 // The listing of a division. A slice of less than 281 + 42 for each vertex is left as it was, and the answer is 0.
-// Rules out: a vertex and its owner in the other's place; a stat left out; a byte written beyond the text.
+// The half behind `cut` is rounded down; the stats of a division have it whole (law `half-told` of multilevel).
+// Rules out: a vertex and its owner in the other's place; a stat left out; the cut not halved; a byte written beyond the text.
 pub fn write_site(text: &mut [u8], ranks: u32, owners: &[u32], stats: AbtmMultilevelStats) -> usize
-    ensures { λ r. ⌜ Told (siteText ranks (now (owners .entry)) stats) (siteRoom (length (now (owners .entry)))) (now (text .entry)) (now (text .exit)) r ⌝ }
+    ensures { λ r. ⌜ Told (siteText ranks (now (owners .entry)) (stats .«final_cut_nnz» / 2) stats) (siteRoom (length (now (owners .entry)))) (now (text .entry)) (now (text .exit)) r ⌝ }
 {
     if has_room(text.len(), owners.len()) {
         let a = put_head(text, owners.len() as u64, ranks);

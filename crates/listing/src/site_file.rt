@@ -45,7 +45,7 @@ fn tell_division(
 }
 
 // The text of a link file's answer, for any bytes. A slice of less than 2,969 bytes is left as it was, and the answer is 0.
-// Rules out: a listing of another division; a refusal with another number.
+// Rules out: a listing of another division; a cut link counted from both ends; a refusal with another number.
 pub fn share(file: &[u8], text: &mut [u8]) -> usize
     ensures { λ r. ⌜ Told (fileText (now (file .entry))) shareRoom (now (text .entry)) (now (text .exit)) r ⌝ }
     ensures { λ r. ⌜ Counts r (now (text .exit)) ⌝ }

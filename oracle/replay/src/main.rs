@@ -4,6 +4,7 @@
 //!     replay requests FOLDER OUT      writes OUT/stdin, OUT/stdout and OUT/REQUESTS.md: the requests of crates/replay, the listings, and what each
 //!                                     request is for. FOLDER is that of the samples
 //!     replay answers STDIN            prints the listings of the requests in that file, and sees that each slip is told by one of them
+//!     replay many COUNT OUT           writes OUT/stdin and OUT/stdout: so many random requests, and the listings
 // multilevel.rs, of which requests.rs has copies with a slip each, names these as of its own crate, and the matrix crate
 extern crate reference as hybit_matrix;
 use reference::{
@@ -26,8 +27,11 @@ fn main() {
         }
         ["answers", stdin] => print!("{}", requests::answers(&std::fs::read(stdin).expect("the requests"))),
         ["requests", folder, out] => requests::write(samples(Path::new(folder)), Path::new(out)),
+        ["many", count, out] => requests::write_many(count.parse().expect("a number"), Path::new(out)),
         _ => {
-            eprintln!("usage: replay samples FOLDER | replay requests FOLDER OUT | replay answers STDIN");
+            eprintln!(
+                "usage: replay samples FOLDER | replay requests FOLDER OUT | replay answers STDIN | replay many COUNT OUT"
+            );
             std::process::exit(2);
         }
     }

@@ -139,9 +139,39 @@ pub fn write(samples: Vec<(String, Vec<u8>)>, out: &Path) {
         writeln!(text, "| {from} to {} | {name} of all shapes |", files.len()).expect("a string");
     }
 
+    store(&files, out);
+    std::fs::write(out.join("REQUESTS.md"), text).expect("a file written");
+}
+
+/// Random requests, more than are stored: of eight, four without workloads, three with them, and one with a number changed.
+pub fn write_many(count: usize, out: &Path) {
+    let mut random = drawing("many");
+    let files: Vec<_> = (0..count)
+        .map(|i| {
+            let size = if i % 10 == 0 { 64 } else { 20 };
+            match i % 8 {
+                0..4 => file(&draw(&mut random, size)),
+                4..7 => file(&draw_weighed(&mut random, size)),
+                _ => changed(&mut random, size),
+            }
+        })
+        .collect();
+    store(&files, out);
+}
+
+/// A file with one of its numbers changed.
+fn changed(random: &mut Random, size: usize) -> Vec<u8> {
+    let mut file = file(&draw_weighed(random, size));
+    let at = 4 * random.index(file.len() / 4);
+    let number = random.between(0, 70) as u32;
+    file[at..at + 4].copy_from_slice(&number.to_le_bytes());
+    file
+}
+
+/// The requests, each behind its length, and their listings.
+fn store(files: &[Vec<u8>], out: &Path) {
     let stdin: Vec<u8> = files.iter().flat_map(|f| [&(f.len() as u32).to_le_bytes()[..], f].concat()).collect();
     let stdout: String = files.iter().map(|f| listing(f)).collect();
-    for (name, bytes) in [("stdin", &stdin[..]), ("stdout", stdout.as_bytes()), ("REQUESTS.md", text.as_bytes())] {
-        std::fs::write(out.join(name), bytes).expect("a file written");
-    }
+    std::fs::write(out.join("stdin"), stdin).expect("a file written");
+    std::fs::write(out.join("stdout"), stdout).expect("a file written");
 }

@@ -1,4 +1,5 @@
 -- Four words with their numbers, one after the other. Assumes nothing.
+use Prim.Native.Nat.{_/_}
 use borrow.Author.Needs.{needs}
 use Rattle.listing.specs.Listing.{fineText}
 use Rattle.listing.proofs.LineLaws.{fine-text}
@@ -36,11 +37,14 @@ same-length c = search needs
 returns : tie.Need-returns
 unfolding fineText
 returns c =
-    let a = c .before .before .before .before .before .before .before .before .before .before .before .before .before .before .before .before .before .put-field .ensures .0 in
-    let b = c .before .before .before .before .before .before .before .before .before .before .before .before .put-field2 .ensures .0 in
-    let d = c .before .before .before .before .before .before .before .put-field3 .ensures .0 in
-    let e = c .before .before .put-field4 .ensures .0 in
-    (written-as (joined (joined (joined a b) d) e) (fine-text (c .before .before .before .before .before .before .before .before .before .before .before .before .before .before .before .before .before .before .before .before .before .args .s)), search needs)
+    let c2 = c .before .before in
+    let c7 = c2 .before .before .before .before .before in
+    let c13 = c7 .before .before .before .before .before .before in
+    let c18 = c13 .before .before .before .before .before in
+    let c22 = c18 .before .before .before .before in
+    let s = c22 .args .s in
+    let pieces = joined (joined (joined (c18 .put-field .ensures .0) (c13 .put-field2 .ensures .0)) (c7 .put-field3 .ensures .0)) (c2 .put-field4 .ensures .0) in
+    (written-as pieces (fine-text (s .«final_cut_nnz» / 2) s), search needs)
 
 pub put-fine-spec : {M : Type 1} → statement M
 put-fine-spec =

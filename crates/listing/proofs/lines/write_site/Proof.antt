@@ -1,4 +1,5 @@
 -- Head, lines and stats, one after the other, fit into the room that was tested. Assumes nothing.
+use Prim.Native.Nat.{_/_}
 use mathlib.Core.Path.{sym, _∙_}
 use mathlib.Core.List.{append-assoc}
 use native.Mathlib.Omega.{arith}
@@ -39,13 +40,13 @@ returns c =
     let head = c .before .before .before .before .before .before .before .before .before .before .put-head .ensures .0 in
     let lines = c .before .before .before .before .before .before .put-lines .ensures .0 in
     let stats = c .before .before .put-stats .ensures .0 in
-    let whole = written-as {ys = siteText (a .ranks) (a .owners .now) (a .stats)} (joined (joined head lines) stats) (simp append-assoc) in
+    let whole = written-as {ys = siteText (a .ranks) (a .owners .now) (a .stats .«final_cut_nnz» / 2) (a .stats)} (joined (joined head lines) stats) (simp append-assoc) in
     told (omega (arith, whole .end-is)) room whole
 
 returns-2 : tie.Need-returns-2
 returns-2 c =
     let a = c .before .before .before .before .args in
-    untold (siteText (a .ranks) (a .owners .now) (a .stats)) (a .text .now) (siteRoom (length (a .owners .now)))
+    untold (siteText (a .ranks) (a .owners .now) (a .stats .«final_cut_nnz» / 2) (a .stats)) (a .text .now) (siteRoom (length (a .owners .now)))
     (leb-false (siteRoom (length (a .owners .now))) (length (a .text .now)) (sym (c .before .has-room .ensures) ∙ c .if1 .left))
 
 pub write-site-spec : {M : Type 1} → statement M

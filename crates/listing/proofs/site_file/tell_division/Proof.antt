@@ -46,7 +46,7 @@ returns c =
     let c18 = c9 .before .before .before .before .before .before .before .before .before in
     let p = c9 .abtm-multilevel-partition .ensures in
     told-as (with-room (c2 .write-refusal .ensures) shareRoom (omega arith) (c18 .pre .2))
-    (refused-text (c18 .args .s .ranks) _ _ (refusal-told p _ _ (c5 .enum-told .given .1) (c3 .number .ensures)))
+    (refused-text _ _ (refusal-told p _ _ (c5 .enum-told .given .1) (c3 .number .ensures)))
 
 array-share-prefix-owners : tie.Need-array-share-prefix-owners
 array-share-prefix-owners c = search needs
@@ -78,7 +78,7 @@ returns-2 c =
     let d =
     owners-told p (c6 .a .given .0 .0) (n .result) (c6 .a .given .1) (c19 .pre .0 ∙ ap (λ (x : ℕ). x + 1) (sym (n .ensures))) in
     told-as (with-room (c2 .write-site .ensures) shareRoom (omega (arith, d .0, n .ensures, c19 .pre .1)) (c19 .pre .2))
-    (divided-text (c19 .args .s .ranks) _ _ _ (d .1))
+    (divided-text _ _ _ (d .1))
 
 pub tell-division-spec : {M : Type 1} → statement M
 tell-division-spec =
