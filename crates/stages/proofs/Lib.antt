@@ -1,5 +1,6 @@
 pub mod LoadSetLaws
 pub mod TallyLaws
+pub mod InsertLaws
 pub mod SlotLaws
 pub mod KeyLaws
 pub mod TargetLaws
