@@ -59,6 +59,9 @@ uint64_t hipstern_minimum_load(uint64_t total, uint32_t ranks, uint32_t imbalanc
  *                        one; sort the links by low end, then by high end.
  *   HIPSTERN_WORKLOAD    a workload of 0 or above 10,000. Mend: give each turbine at least 1, in a unit in which none needs
  *                        more than 10,000.
+ *   HIPSTERN_LONE        a turbine that is an end of no link, among two turbines or more. Mend: its links were most likely
+ *                        lost on the way; give them, or leave the turbine out and number those after it anew. A file of
+ *                        one turbine needs no link.
  *
  * HIPSTERN_OK says that the file can be read. Its division may be refused all the same, for its options (1), its numbers
  * of turbines and crews (2), or because no permitted shares were found (6 to 9).
@@ -69,6 +72,7 @@ uint32_t hipstern_link_file_cause(const uint8_t *file, size_t length);
 #define HIPSTERN_OVER_LIMIT 3u
 #define HIPSTERN_MALFORMED 10u
 #define HIPSTERN_WORKLOAD 13u
+#define HIPSTERN_LONE 14u
 
 #ifdef __cplusplus
 }

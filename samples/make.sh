@@ -45,7 +45,7 @@ for ((v = 0; v < 64; v++)); do
   if ((v < 8)); then torus+=("$v-$((v + 56))"); fi
 done
 
-# document 01's sites by hand
+# document 01's sites by hand, but for the one without links: no file may have it (lone4 below), and only the library divides it
 site path4 4 2 12 64 30 2 "${path4[@]}"
 site path4-coarse 4 2 12 1 30 2 "${path4[@]}"
 site path4-k3-t499 4 3 12 64 499 2 "${path4[@]}"
@@ -57,9 +57,10 @@ site star4-t499 4 2 12 1 499 2 "${star4[@]}"
 site star4-t500 4 2 12 1 500 2 "${star4[@]}"
 site pairs-t333 6 4 12 1 333 2 "${pairs[@]}"
 site pairs-t334 6 4 12 1 334 2 "${pairs[@]}"
-site lone4 4 2 12 1 30 2
 # two crews offer a move the same gain, and the lighter one is not the lower (request P4)
 site lighter8 8 3 1 2 500 3 0-1 0-2 0-5 0-6 0-7 1-3 1-4 1-5 1-7 2-3 2-4 2-5 2-7 3-5 3-6 4-6 4-7 5-7
+# one turbine, which alone may be without a link (request P7)
+site one 1 1 12 64 30 2
 # every size at its limit
 site torus64 64 8 12 1 100 2 "${torus[@]}"
 # workloads (request P1): a swap that would lift a load to the floor, and one that would bring a load above the cap: neither is made; each 1, as
@@ -94,6 +95,13 @@ numbers over-byte-order $((4 << 24)) $((3 << 24)) $((2 << 24)) $((12 << 24)) $((
 site workload-0 4 2 12 64 30 2 "${path4[@]}" with 1 1 0 1
 site workload-10001 4 2 12 64 30 2 "${path4[@]}" with 1 1 1 10001
 
+# a lone turbine (14): all of four, document 01's site without links; both of two; the last alone
+site lone4 4 2 12 1 30 2
+site lone2 2 1 12 64 30 2
+site lone-last 4 2 12 64 30 2 0-1 1-2
+# the workloads come before it
+site workload-0-lone 4 2 12 64 30 2 0-1 1-2 with 1 1 0 1
+
 # malformed (10): the length
 numbers bad-empty
 first bad-short path4 27
@@ -112,5 +120,6 @@ site bad-repeat 4 2 12 64 30 2 0-1 0-1 2-3
 site bad-low-above-high 4 2 12 64 30 2 0-1 2-1 2-3
 site bad-self 4 2 12 64 30 2 0-1 1-1 2-3
 site bad-end-n 4 2 12 64 30 2 0-1 1-2 2-4
-# the links come before the workloads
+# the links come before the workloads, and before a lone turbine
 site bad-end-n-workload-0 4 2 12 64 30 2 0-1 1-2 2-4 with 1 1 0 1
+site bad-order-lone 4 2 12 64 30 2 1-2 0-1

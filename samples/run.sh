@@ -23,7 +23,7 @@ for file in samples/*.links; do
   echo "== ${name%.links}"
   timeout 60 "$share" <"$file"
 done | diff samples/expected.txt - || failed=1
-for number in 1 2 3 6 7 8 9 10 13; do
+for number in 1 2 3 6 7 8 9 10 13 14; do
   grep -qx "refused $number" samples/expected.txt || { echo "share: no sample for refusal $number"; failed=1; }
 done
 same 'path4, document 01' "$(cat crates/share/stdout)" "$("$share" <samples/path4.links)"

@@ -1,18 +1,17 @@
 -- Laws of the link file's tests, each as the code meets it. Assumes nothing.
-use Prim.Native.Nat.{ℕ, _-_, _≤_, _<_}
+use Prim.Native.Nat.{ℕ, _+_, _-_, _≤_, _<_}
 use mathlib.Core.Path.{_≡_, refl, sym, _∙_}
-use mathlib.Core.Bool.{Bool, true, false, _&&_, _||_, cond}
+use mathlib.Core.Bool.{Bool, true, false, not, _&&_, _||_, cond}
 use mathlib.Core.List.{List}
 use native.Mathlib.Omega.{arith}
 use lib.ListN.{length}
-use lib.Dec.{ltb}
+use lib.Dec.{ltb, eqb}
 use borrow.Author.Tests.{ltb-false, lt-ltb, le-ltb, eq-eqb, ne-eqb}
-use Rattle.links.specs.Lists.{at, any}
+use Rattle.links.specs.Lists.{any, range}
 use Rattle.links.specs.Options.{badListLength, badSwaps}
 use Rattle.links.specs.Workloads.{badWorkload, badWorkloads}
-use Rattle.links.proofs.WorkloadLaws.{workloads-fine}
-use Rattle.links.proofs.ListLaws.{split, and-l, and-r, or-l, or-r}
-use Rattle.multilevel.specs.File.{number, sizesOf, lowEnd, highEnd, linkBefore, goodLink, goodLinks, vertexCountOf, linkCountOf, overProgramLimits, goodLength, fileWorkloads, fileCause, Sized}
+use Rattle.links.proofs.ListLaws.{split, and-l, and-r, or-l, or-r, any-range, to-any, elem-range}
+use Rattle.multilevel.specs.File.{number, sizesOf, lowEnd, highEnd, linkBefore, goodLink, goodLinks, vertexCountOf, linkCountOf, overProgramLimits, goodLength, fileWorkloads, isEnd, loneIn, hasLone, fileCause, Sized}
 use Rattle.multilevel.proofs.FileWorkloadLaws.{workloads-told, links-within}
 
 module _ (b : List ℕ) (i j x y : ℕ) (ex : x ≡ lowEnd b i) (ey : y ≡ lowEnd b j) where
@@ -44,6 +43,56 @@ module _ (b : List ℕ) (i n x y : ℕ) (en : n ≡ vertexCountOf b) (ex : x ≡
   pub link-later : x < y → y < n → (i ≡ 0 → ⊥) → (r : Bool) → r ≡ linkBefore b (i - 1) i → r ≡ goodLink b i
   unfolding goodLink
   link-later h k e r q = rw (lt-ltb (lowEnd b i) (highEnd b i) (omega arith), lt-ltb (highEnd b i) (vertexCountOf b) (omega arith), ne-eqb i 0 e) q
+
+-- ---- lone vertices
+
+module _ (b : List ℕ) (v i x : ℕ) (ex : x ≡ lowEnd b i) where
+  pub end-low : x ≡ v → true ≡ isEnd b v i
+  unfolding isEnd
+  end-low e = rw (eq-eqb (lowEnd b i) v (sym ex ∙ e))
+
+  pub end-high : (x ≡ v → ⊥) → (y : ℕ) → y ≡ highEnd b i → eqb y v ≡ isEnd b v i
+  unfolding isEnd
+  end-high d y ey = rw (ne-eqb (lowEnd b i) v (λ q. d (ex ∙ q)), ey)
+
+-- the links gone through up to i: none has v as an end, so those from i on decide
+module _ (b : List ℕ) (v e i : ℕ) (s : not (any (isEnd b v) (range i (e - i))) ≡ loneIn b v) where
+  pub lone-ends : i < e → isEnd b v i ≡ true → false ≡ loneIn b v
+  lone-ends h t = rw (any-range (isEnd b v) i e h, t) at s
+
+  pub lone-more : i < e → isEnd b v i ≡ false → not (any (isEnd b v) (range (i + 1) (e - (i + 1)))) ≡ loneIn b v
+  lone-more h t = rw (any-range (isEnd b v) i e h, t) at s
+
+  pub lone-done : e ≤ i → true ≡ loneIn b v
+  lone-done h = let z : e - i ≡ 0 = omega arith in rw z at s
+
+-- the vertices gone through from the last down
+pub lone-next
+    : (b : List ℕ) (n v : ℕ)
+    → 0 < v
+    → v ≤ n
+    → any (loneIn b) (range v (n - v)) ≡ false
+    → loneIn b (v - 1) ≡ false
+    → any (loneIn b) (range (v - 1) (n - (v - 1))) ≡ false
+lone-next b n v p k s f = let z : (v - 1) + 1 ≡ v = omega arith in any-range (loneIn b) (v - 1) n (omega arith) ∙ rw (f, z) s
+
+module _ (b : List ℕ) (n : ℕ) (e : n ≡ vertexCountOf b) where
+  pub lone-few : n < 2 → false ≡ hasLone b
+  unfolding hasLone
+  lone-few h = rw (le-ltb 1 (vertexCountOf b) (omega arith))
+
+  module _ (h : 2 ≤ n) where
+    pub lone-found : (v : ℕ) → v < n → loneIn b v ≡ true → true ≡ hasLone b
+    unfolding hasLone
+    lone-found v k l =
+        rw (lt-ltb 1 (vertexCountOf b) (omega arith))
+        (sym (to-any (loneIn b) (range 0 (vertexCountOf b)) v (elem-range v 0 (vertexCountOf b) (omega arith) (omega arith)) l))
+
+    pub lone-none : (v : ℕ) → v ≡ 0 → any (loneIn b) (range v (n - v)) ≡ false → false ≡ hasLone b
+    unfolding hasLone
+    lone-none v p s =
+        let z : n - v ≡ vertexCountOf b = omega arith in
+        rw (lt-ltb 1 (vertexCountOf b) (omega arith)) (sym (rw (z, p) at s))
 
 -- ---- the check's answers
 
@@ -83,9 +132,14 @@ module _ (b : List ℕ) where
         unfolding fileCause
         file-links l = rw (le-ltb (length b) 28 h, ← k, ← g, ← l)
 
-        pub file-workloads : true ≡ goodLinks b → (r : Bool) → r ≡ any badWorkload (fileWorkloads b) → cond r 13 0 ≡ fileCause b
-        unfolding fileCause
-        file-workloads l r q = rw (le-ltb (length b) 28 h, ← k, ← g, ← l) (workloads-told b r q)
+        module _ (l : true ≡ goodLinks b) where
+          pub file-workloads : true ≡ any badWorkload (fileWorkloads b) → 13 ≡ fileCause b
+          unfolding fileCause
+          file-workloads q = rw (le-ltb (length b) 28 h, ← k, ← g, ← l, ← workloads-told b true q)
+
+          pub file-lone : false ≡ any badWorkload (fileWorkloads b) → (r : Bool) → r ≡ hasLone b → cond r 14 0 ≡ fileCause b
+          unfolding fileCause
+          file-lone q r e = rw (le-ltb (length b) 28 h, ← k, ← g, ← l, ← workloads-told b false q, e)
 
         -- what the check goes on with
         pub file-sized : (e : ℕ) → e ≡ linkCountOf b → Sized b e
@@ -107,6 +161,7 @@ pub record Accepted (b : List ℕ) : Type 0 where
   pub whole : goodLength b ≡ true
   pub links : goodLinks b ≡ true
   pub workloads : badWorkloads (vertexCountOf b) (fileWorkloads b) ≡ false
+  pub linked : hasLone b ≡ false
 
 pub accepted : (b : List ℕ) → fileCause b ≡ 0 → Accepted b
 unfolding fileCause
@@ -115,7 +170,11 @@ accepted b z = split (ltb (length b) 28)
     (λ p. split (overProgramLimits b)
     (λ q. let r : _≡_ {A = ℕ} 3 0 = rw (p, q) at z in absurd (omega arith))
     (λ q. split (goodLength b && goodLinks b)
-    (λ r.
+    (λ r. split (badWorkloads (vertexCountOf b) (fileWorkloads b))
+    (λ w. let s : _≡_ {A = ℕ} 13 0 = rw (p, q, r, w) at z in absurd (omega arith))
+    (λ w. split (hasLone b)
+    (λ l. let s : _≡_ {A = ℕ} 14 0 = rw (p, q, r, w, l) at z in absurd (omega arith))
+    (λ l.
     let h = ltb-false (length b) 28 p in
     let g = and-l (goodLength b) (goodLinks b) r in
     record {
@@ -125,6 +184,7 @@ accepted b z = split (ltb (length b) 28)
       sized = file-sized b h (sym q) (sym g) (linkCountOf b) refl;
       whole = g;
       links = and-r (goodLength b) (goodLinks b) r;
-      workloads = workloads-fine (vertexCountOf b) (fileWorkloads b) 0 (sym (rw (p, q, r) at z)) refl;
-    })
+      workloads = w;
+      linked = l;
+    })))
     (λ r. let s : _≡_ {A = ℕ} 10 0 = rw (p, q, r) at z in absurd (omega arith))))

@@ -11,7 +11,7 @@ use Rattle.links.proofs.ListLaws.{split, or-l, or-r}
 use Rattle.multilevel.specs.File.{vertexCountOf, linkCountOf, sizesOf, fileWorkloads, fileCause, readerCause, FileRead, RowsWritten}
 use Rattle.multilevel.specs.declared.file.Read.the-variants.{Site, Refused}
 use Rattle.multilevel.proofs.FileLaws.{Accepted, accepted}
-use Rattle.multilevel.proofs.FileRowLaws.{file-lists}
+use Rattle.multilevel.proofs.FileRowLaws.{file-lists, linked-rows}
 
 -- ---- the number
 
@@ -79,6 +79,7 @@ module _ (b o s w : List ℕ) where
         workloads-written = λ z. absurd (d (e ∙ z));
         sound = λ z. file-lists b (accepted b z .links);
         workloads-pass = λ z. accepted b z .workloads;
+        linked = λ z. linked-rows b (accepted b z .links) (accepted b z .linked);
       }
 
   pub read-all
@@ -99,4 +100,5 @@ module _ (b o s w : List ℕ) where
         workloads-written = λ q. ws;
         sound = λ z. file-lists b (accepted b z .links);
         workloads-pass = λ z. accepted b z .workloads;
+        linked = λ z. linked-rows b (accepted b z .links) (accepted b z .linked);
       }

@@ -1,27 +1,31 @@
--- Laws of the rows of an accepted file: made link by link they are the rising neighbor lists, they are sound, and they have two entries a link.
--- Assumes nothing.
+-- Laws of the rows of an accepted file: made link by link they are the rising neighbor lists, the lone vertices' are the empty ones, they are sound,
+-- and they have two entries a link. Assumes nothing.
 use Prim.Native.Nat.{ℕ, zero, suc, _+_, _-_, _*_, _≤_, _<_}
 use mathlib.Core.Path.{_≡_, refl, sym, ap, _∙_}
 use mathlib.Core.Logic.{_⊎_, inl, inr, ⊎-elim}
-use mathlib.Core.Bool.{Bool, true, false, _&&_, _||_, cond}
+use mathlib.Core.Bool.{Bool, true, false, not, _&&_, _||_, cond}
 use mathlib.Core.List.{List, [], _∷_, _++_, map, append-nil}
 use native.Mathlib.Omega.{arith}
 use native.Mathlib.Nat.{zero-add}
 use lib.ListN.{length, length-append, length-map}
 use lib.Dec.{ltb, eqb}
-use borrow.Author.Tests.{eq-eqb, ne-eqb, ltb-true, eqb-true, eqb-false}
-use Rattle.links.specs.Lists.{at, All, any, range, elem, concatMap}
+use borrow.Author.Tests.{eq-eqb, ne-eqb, lt-ltb, ltb-true, eqb-true, eqb-false}
+use Rattle.links.specs.Lists.{All, any, range, elem, empty, concatMap}
 use Rattle.links.specs.Graph.{row, strictlyRising, rowsOf, packed, Sound, SoundLists}
-use Rattle.links.proofs.ListLaws.{split, any-ext, eqb-sym, and-l, and-r, all-of, all-to, all-in, all-append, all-filter, all-range, elem-filter, elem-range, elem-concat, length-range, total, total-ext, total-add, total-zero, total-point, and-true}
+use Rattle.links.proofs.ListLaws.{split, any-ext, eqb-sym, and-l, and-r, all-of, all-to, all-in, all-append, all-filter, all-range, any-none, elem-filter, elem-range, elem-concat, length-range, total, total-ext, total-add, total-zero, total-point, and-true}
 use Rattle.links.proofs.RangeLaws.{filter-ext, range-snoc, concat-append, filter-rises, rises-snoc, rising-filter}
 use Rattle.links.proofs.RowLaws.{getD-map-range}
 use Rattle.links.proofs.PackLaws.{sound-packed, rows-packed}
-use Rattle.multilevel.specs.File.{lowEnd, highEnd, linkBefore, goodLink, goodLinks, vertexCountOf, linkCountOf, linkedIn, fileRow, fileRows, fileOffsets, fileNeighbors, otherEnd, rowUpTo}
+use Rattle.multilevel.specs.File.{lowEnd, highEnd, linkBefore, goodLink, goodLinks, vertexCountOf, linkCountOf, linkedIn, fileRow, fileRows, fileOffsets, fileNeighbors, otherEnd, rowUpTo, isEnd, loneIn, hasLone}
 
 length-packed : (f : ℕ → List ℕ) (i n : ℕ) → length (packed (map f (range i n))) ≡ total i n (λ v. length (f v))
 unfolding total
 length-packed f i zero = refl
 length-packed f i (suc n) = omega (arith, length-append (f i) (packed (map f (range (suc i) n))), length-packed f (suc i) n)
+
+empty-append : (xs ys : List ℕ) → empty (xs ++ ys) ≡ (empty xs && empty ys)
+empty-append [] ys = refl
+empty-append (x ∷ xs) ys = refl
 
 module _ (b : List ℕ) where
   -- link i has the ends v and u
@@ -191,6 +195,30 @@ module _ (b : List ℕ) where
         tested u =
             elem-concat u (otherEnd b v) (range 0 (linkCountOf b))
             ∙ any-ext (λ i. elem u (otherEnd b v i)) (λ i. (eqb (lowEnd b i) v && eqb (highEnd b i) u) || (eqb (lowEnd b i) u && eqb (highEnd b i) v)) 0 (linkCountOf b) (λ i h k. other-test v u i (omega arith))
+
+    -- ---- lone vertices: their rows are the empty ones
+
+    other-empty : (v i : ℕ) → empty (otherEnd b v i) ≡ not (isEnd b v i)
+    unfolding otherEnd isEnd
+    other-empty v i = split (eqb (lowEnd b i) v) (λ p. rw p) (λ p. split (eqb (highEnd b i) v) (λ q. rw (p, q)) (λ q. rw (p, q)))
+
+    pub lone-row : (v : ℕ) → loneIn b v ≡ empty (fileRow b v)
+    unfolding loneIn rowUpTo
+    lone-row v = rw (← row-made v) (go (range 0 (linkCountOf b)))
+      where
+        go : (is : List ℕ) → not (any (isEnd b v) is) ≡ empty (concatMap (otherEnd b v) is)
+        go [] = refl
+        go (i ∷ is) =
+            rw (empty-append (otherEnd b v i) (concatMap (otherEnd b v) is), other-empty v i, ← go is)
+            (split (isEnd b v i) (λ p. rw p) (λ p. rw p))
+
+    pub linked-rows : hasLone b ≡ false → 1 < vertexCountOf b → (v : ℕ) → v < vertexCountOf b → empty (fileRow b v) ≡ false
+    unfolding hasLone
+    linked-rows l h v k =
+        let all = range 0 (vertexCountOf b) in
+        let none : any (loneIn b) all ≡ false = rw (lt-ltb 1 (vertexCountOf b) h) at l in
+        sym (lone-row v)
+        ∙ all-in (λ u. loneIn b u ≡ false) all v (any-none (loneIn b) all none) (elem-range v 0 (vertexCountOf b) (omega arith) (omega arith))
 
     -- ---- sound rows
 

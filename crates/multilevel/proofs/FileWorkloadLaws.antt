@@ -1,14 +1,14 @@
 -- Laws of a file's workloads: one for each vertex, read from either length. Assumes nothing.
 use Prim.Native.Nat.{ℕ, _+_, _*_, _≤_, _<_}
 use mathlib.Core.Path.{_≡_, sym, _∙_}
-use mathlib.Core.Bool.{Bool, true, cond}
+use mathlib.Core.Bool.{Bool, true}
 use mathlib.Core.List.{List}
 use native.Mathlib.Omega.{arith}
 use lib.ListN.{length, length-map, length-replicate, getD-replicate}
 use lib.Dec.{eqb}
 use borrow.Author.Tests.{eq-eqb, ne-eqb, eqb-true, eqb-false}
 use Rattle.links.specs.Lists.{at, any, range}
-use Rattle.links.specs.Workloads.{badWorkload, badWorkloads, workloadsCause}
+use Rattle.links.specs.Workloads.{badWorkload, badWorkloads}
 use Rattle.links.proofs.ListLaws.{split, length-range}
 use Rattle.links.proofs.RowLaws.{getD-map-range}
 use Rattle.multilevel.specs.File.{number, vertexCountOf, linkCountOf, goodLength, fileWorkloads}
@@ -24,9 +24,9 @@ module _ (b : List ℕ) where
       (λ p. rw p (length-map (range from n) (number b) ∙ length-range from n))
 
   -- they are as many as the vertices, so cause 13 is of one of them
-  pub workloads-told : (r : Bool) → r ≡ any badWorkload (fileWorkloads b) → cond r 13 0 ≡ workloadsCause (vertexCountOf b) (fileWorkloads b)
-  unfolding workloadsCause badWorkloads
-  workloads-told r q = rw (eq-eqb (length (fileWorkloads b)) (vertexCountOf b) length-workloads, q)
+  pub workloads-told : (r : Bool) → r ≡ any badWorkload (fileWorkloads b) → r ≡ badWorkloads (vertexCountOf b) (fileWorkloads b)
+  unfolding badWorkloads
+  workloads-told r q = rw (eq-eqb (length (fileWorkloads b)) (vertexCountOf b) length-workloads) q
 
   -- ---- either length
 

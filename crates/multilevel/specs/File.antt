@@ -1,15 +1,15 @@
--- Rule 9: the link file, with document 02's workloads. One definition of the format serves the check and the reader. Assumes nothing.
-use Prim.Native.Nat.{ℕ, _+_, _-_, _*_, _≤_}
+-- Rule 9: the link file, with document 02's workloads and its 14. One definition of the format serves the check and the reader. Assumes nothing.
+use Prim.Native.Nat.{ℕ, _+_, _-_, _*_, _≤_, _<_}
 use mathlib.Core.Path.{_≡_}
-use mathlib.Core.Bool.{Bool, false, _&&_, _||_, cond}
+use mathlib.Core.Bool.{Bool, false, not, _&&_, _||_, cond}
 use mathlib.Core.List.{List, [], _∷_, _++_, map}
 use lib.ListN.{length, drop, replicate}
 use lib.Seq.{sets}
 use lib.Dec.{ltb, eqb}
-use Rattle.links.specs.Lists.{at, filter, any, all, range, concatMap, above}
+use Rattle.links.specs.Lists.{at, filter, any, all, range, empty, concatMap, above}
 use Rattle.links.specs.Options.{defaultListLength, defaultPassFactor}
 use Rattle.links.specs.Graph.{rowsOf, offsetsFrom, packed, SoundLists}
-use Rattle.links.specs.Workloads.{badWorkloads, workloadsCause}
+use Rattle.links.specs.Workloads.{badWorkloads}
 use Rattle.multilevel.specs.declared.file.Sizes.{Sizes}
 use Rattle.multilevel.specs.declared.file.Read.{Read}
 use Rattle.multilevel.specs.declared.file.Read.the-variants.{Site, Refused}
@@ -75,12 +75,27 @@ fileWorkloads b =
     (replicate (vertexCountOf b) 1)
     (map (number b) (range (7 + 2 * linkCountOf b) (vertexCountOf b)))
 
--- "under 28 bytes 10; program limits 3"; any other length than those two, "or a wrong link, 10"; then 13, "in a file after the link tests of 10"
+-- v is an end of link i
+unfoldable pub isEnd : List ℕ → ℕ → ℕ → Bool
+isEnd b v i = eqb (lowEnd b i) v || eqb (highEnd b i) v
+
+-- a "turbine without a link"
+unfoldable pub loneIn : List ℕ → ℕ → Bool
+loneIn b v = not (any (isEnd b v) (range 0 (linkCountOf b)))
+
+-- "a lone turbine where n is 2 or more"
+unfoldable pub hasLone : List ℕ → Bool
+hasLone b = ltb 1 (vertexCountOf b) && any (loneIn b) (range 0 (vertexCountOf b))
+
+-- "under 28 bytes 10; program limits 3"; any other length than those two, "or a wrong link, 10"; then 13, "in a file after the link tests of 10";
+-- 14 "after 13"
 unfoldable pub fileCause : List ℕ → ℕ
 fileCause b =
     cond (ltb (length b) 28) 10
     (cond (overProgramLimits b) 3
-    (cond (goodLength b && goodLinks b) (workloadsCause (vertexCountOf b) (fileWorkloads b)) 10))
+    (cond (not (goodLength b && goodLinks b)) 10
+    (cond (badWorkloads (vertexCountOf b) (fileWorkloads b)) 13
+    (cond (hasLone b) 14 0))))
 
 -- "the reader then 5 (n + 1 offsets, 2e neighbours)", and "its 5 counts them too": n workloads
 unfoldable pub readerCause : List ℕ → ℕ → ℕ → ℕ → ℕ
@@ -157,6 +172,8 @@ pub record FileRead (b offsets neighbors workloads offsets′ neighbors′ workl
   pub sound : fileCause b ≡ 0 → SoundLists (fileOffsets b) (fileNeighbors b) × (rowsOf (fileOffsets b) (fileNeighbors b) ≡ fileRows b)
   -- and the workloads pass theirs
   pub workloads-pass : fileCause b ≡ 0 → badWorkloads (vertexCountOf b) (fileWorkloads b) ≡ false
+  -- no row is empty, "unless it has one turbine only"
+  pub linked : fileCause b ≡ 0 → 1 < vertexCountOf b → (v : ℕ) → v < vertexCountOf b → empty (fileRow b v) ≡ false
 
 -- a file that has at least the bytes that its links ask for
 pub record Sized (b : List ℕ) (e : ℕ) : Type 0 where

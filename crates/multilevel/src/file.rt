@@ -6,7 +6,7 @@ ghost use mathlib.Core.List.{_++_};
 ghost use lib.ListN.{length, drop};
 ghost use Rattle.links.specs.Lists.{at, any};
 ghost use Rattle.links.specs.Workloads.{badWorkload};
-ghost use Rattle.multilevel.specs.File.{number, sizesOf, vertexCountOf, lowEnd, highEnd, overProgramLimits, linkBefore, goodLink, goodLinks, goodLength, fileWorkloads, fileCause, readerCause, fileRow, otherEnd, readNumber, FileRead, Sized, Written, RowsWritten};
+ghost use Rattle.multilevel.specs.File.{number, sizesOf, vertexCountOf, lowEnd, highEnd, overProgramLimits, linkBefore, goodLink, goodLinks, goodLength, fileWorkloads, isEnd, loneIn, hasLone, fileCause, readerCause, fileRow, otherEnd, readNumber, FileRead, Sized, Written, RowsWritten};
 use links::AbtmMultilevelOptions;
 use links::bad_workload;
 use links::index;
@@ -196,8 +196,51 @@ fn workload_bad(b: &[u8], e: usize, n: usize) -> bool
     false
 }
 
-// The file check: 0, or 10, 3 or 13.
-// Rules out: a file with one workload too few; links in rising order of their low ends alone.
+fn is_end(b: &[u8], e: usize, i: usize, v: u32) -> bool
+    requires { ⌜ Sized (now b) e × (i < e) ⌝ }
+    ensures { λ r. ⌜ r ≡ isEnd (now (b .entry)) v i ⌝ }
+{
+    if low_end(b, e, i) == v {
+        return true;
+    }
+    high_end(b, e, i) == v
+}
+
+// Whether no link has v as an end.
+fn is_lone(b: &[u8], e: usize, v: u32) -> bool
+    requires { ⌜ Sized (now b) e ⌝ }
+    ensures { λ r. ⌜ r ≡ loneIn (now (b .entry)) v ⌝ }
+{
+    let mut i: usize = 0;
+    while i < e {
+        if is_end(b, e, i, v) {
+            return false;
+        }
+        i += 1;
+    }
+    true
+}
+
+// Whether one of two vertices or more is lone: the last is looked at first.
+fn has_lone(b: &[u8], e: usize, n: u32) -> bool
+    requires { ⌜ Sized (now b) e × (n ≡ vertexCountOf (now b)) ⌝ }
+    ensures { λ r. ⌜ r ≡ hasLone (now (b .entry)) ⌝ }
+{
+    if n < 2 {
+        return false;
+    }
+    let mut v = n;
+    while v > 0 {
+        v -= 1;
+        if is_lone(b, e, v) {
+            return true;
+        }
+    }
+    false
+}
+
+// The file check: 0, or 10, 3, 13 or 14.
+// Rules out: a file with one workload too few; links in rising order of their low ends alone; a file whose last vertex is lone.
 pub fn link_file_cause(b: &[u8]) -> u32
     ensures { λ r. ⌜ r ≡ fileCause (now (b .entry)) ⌝ }
 {
@@ -217,6 +260,9 @@ pub fn link_file_cause(b: &[u8]) -> u32
     }
     if workload_bad(b, e, index(n)) {
         return 13;
+    }
+    if has_lone(b, e, n) {
+        return 14;
     }
     0
 }
@@ -299,7 +345,7 @@ fn write_workloads(b: &[u8], e: usize, n: usize, workloads: &mut [u32])
     }
 }
 
-// The reader: the sizes and options, and n + 1 offsets, 2e neighbors and n workloads written; or 10, 3, 13 or 5 and nothing written.
+// The reader: the sizes and options, and n + 1 offsets, 2e neighbors and n workloads written; or 10, 3, 13, 14 or 5, and nothing written.
 // Rules out: a carried workload written as 1; an output changed by a refusal.
 pub fn read_link_file(
     b: &[u8],

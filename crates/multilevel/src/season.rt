@@ -20,7 +20,7 @@ pub extern "C" fn hipstern_minimum_load(total: u64, ranks: u32, imbalance_per_mi
     links::minimum_load(total, ranks, imbalance_per_mille)
 }
 
-// 0, or the refusal: 10, 3 or 13.
+// 0, or the refusal: 10, 3, 13 or 14.
 // Rules out: a byte read beyond the file's end; the reader's 5.
 #[no_mangle]
 pub extern "C" fn hipstern_link_file_cause(file: &[u8]) -> u32

@@ -11,10 +11,11 @@ use reference::{before_p9, in_force, p1_alone, unchanged};
 /// Owners, and some of the stats: their place in `AbtmMultilevelStats`, and the number.
 pub type Answer = Result<(&'static [u32], &'static [(usize, u64)]), u32>;
 
-/// Document 01's sites by hand; then one where two ranks offer the same gain and the lighter one is not the lower (request P4); and
-/// two whose workloads forbid a swap (request P1): a load is below the floor before it, or above the cap after it; and two that the
-/// list length or the pass factor changes (request P9): a path where only a second candidate has a swap, and a path with a leaf
-/// where a second pass has one more.
+/// Document 01's sites by hand, among them the one of four lone vertices, which only the library divides, since no file may have
+/// it (request P7); then one where two ranks offer the same gain and the lighter one is not the lower (request P4); and two whose
+/// workloads forbid a swap (request P1): a load is below the floor before it, or above the cap after it; and two that the list
+/// length or the pass factor changes (request P9): a path where only a second candidate has a swap, and a path with a leaf where a
+/// second pass has one more.
 pub fn table() -> Vec<(Question, Answer)> {
     let pairs = Site::new(6, &[(0, 1), (2, 3), (4, 5)]);
     let rows: [&[usize]; 6] = [&[1, 2, 5, 6, 7], &[3, 4, 5, 7], &[3, 4, 5, 7], &[5, 6], &[6, 7], &[7]];

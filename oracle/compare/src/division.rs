@@ -263,6 +263,21 @@ fn some_site(random: &mut Random, i: u64) -> Question {
     Question::new(site, ranks, usual_options(random))
 }
 
+/// Sites with a lone vertex, which no file may have (request P7): drawn as the stored requests are, before their lone vertices are
+/// linked up, with workloads of 1 and with others. One of ten has no link at all.
+fn lone(check: &mut Check, random: &mut Random, count: u64) {
+    for i in 0..count {
+        let draw = if random.once_in(2) { sites::some_weighed_question } else { sites::some_question };
+        let mut question = draw(random, if i % 10 == 0 { 64 } else { 20 });
+        if random.once_in(10) {
+            question.site = Site::new(question.site.vertices(), &[]);
+        } else if question.site.lone().is_empty() {
+            question.site = sites::with_lone(random, &question.site);
+        }
+        counted(check, random, &question);
+    }
+}
+
 fn weighed(check: &mut Check, random: &mut Random, count: u64) {
     for i in 0..count {
         let mut question = some_site(random, i);
@@ -430,6 +445,9 @@ pub fn compare(report: &mut Report, seed: u64, count: u64, long: bool) {
     });
     report.check("divisions of random sites with workloads", &[0, 6, 7, 8], |check| {
         weighed(check, &mut Random::new(seed), count)
+    });
+    report.check("divisions of sites with a lone vertex", &[0, 6, 7, 8, 9], |check| {
+        lone(check, &mut Random::new(seed), count)
     });
     let refusals = [0, 1, 2, 3, 4, 5, 13, 17];
     report.check("divisions of bad input", &refusals, |check| bad(check, &mut Random::new(seed), count));

@@ -1,20 +1,21 @@
-//! Rule 9 and request P1: the link file's check and reader, crate multilevel, beside a reading of documents 01 and 02
+//! Rule 9 and requests P1 and P7: the link file's check and reader, crate multilevel, beside a reading of documents 01 and 02
 //! (reference::link_file).
 use crate::bridge;
 use crate::report::{Check, Report};
 use reference::link_file::{self, Contents, LIMITS};
 use reference::random::Random;
-use reference::sites;
+use reference::sites::{self, Site};
 use std::path::Path;
 
 pub fn compare(report: &mut Report, seed: u64, count: u64) {
-    report.check("link file, samples/", &[0, 3, 10, 13], |c| samples(c, &mut Random::new(seed)));
-    report.check("link file, all small files", &[0, 10, 13], |c| small_files(c, &mut Random::new(seed)));
-    report.check("link file, sizes about the limits", &[0, 3, 10, 13], |c| about_limits(c, &mut Random::new(seed)));
-    report.check("link file, every length", &[0, 10, 13], |c| every_length(c, &mut Random::new(seed)));
-    report.check("link file, good files", &[0, 5], |c| good_files(c, &mut Random::new(seed), count));
-    report
-        .check("link file, damaged files", &[0, 3, 5, 10, 13], |c| damaged_files(c, &mut Random::new(seed), 5 * count));
+    let random = || Random::new(seed);
+    report.check("link file, samples/", &[0, 3, 10, 13, 14], |c| samples(c, &mut random()));
+    report.check("link file, all small files", &[0, 10, 13, 14], |c| small_files(c, &mut random()));
+    report.check("link file, sizes about the limits", &[0, 3, 10, 13, 14], |c| about_limits(c, &mut random()));
+    report.check("link file, every length", &[0, 10, 13, 14], |c| every_length(c, &mut random()));
+    report.check("link file, good files", &[0, 5], |c| good_files(c, &mut random(), count));
+    report.check("link file, lone vertices", &[3, 10, 13, 14], |c| lone_files(c, &mut random(), count));
+    report.check("link file, damaged files", &[0, 3, 5, 10, 13, 14], |c| damaged_files(c, &mut random(), 5 * count));
 }
 
 // ---- one file
@@ -118,16 +119,18 @@ fn small_files(check: &mut Check, random: &mut Random) {
 }
 
 /// Every number of the limits below, at and above its limit, with as many links and bytes as the header says, without workloads and
-/// with them; then far beyond, where a sum of 32 bits wraps; each file cut and lengthened; and its last number changed.
+/// with them, each vertex linked, and the last one lone; then far beyond, where a sum of 32 bits wraps; each file cut and
+/// lengthened; and its last number changed.
 fn about_limits(check: &mut Check, random: &mut Random) {
-    let pairs: Vec<(u32, u32)> = (0..4).flat_map(|a| (a + 1..50).map(move |b| (a, b))).collect();
     let numbers = [256, 1 << 16, 1 << 24, 1 << 29, 1 << 31, u32::MAX - 2, u32::MAX];
-    for code in 0..162 {
+    for code in 0..324 {
         let mut header = [0, 0, 0, 0, 1, 0, 1];
         let above = [code / 27 % 3, code / 9 % 3, code / 3 % 3, code % 3];
         (0..4).for_each(|i| header[i] = LIMITS[i] - 1 + above[i]);
-        let workloads = vec![10_000; if code < 81 { 0 } else { header[0] as usize }];
-        let file = link_file::write(header, &pairs[..header[1] as usize], &workloads);
+        let workloads = vec![10_000; if code / 81 % 2 == 0 { 0 } else { header[0] as usize }];
+        let linked = if code < 162 { header[0] } else { header[0] - 1 };
+        let links: Vec<_> = (0..4).flat_map(|a| (a + 1..linked).map(move |b| (a, b))).collect();
+        let file = link_file::write(header, &links[..header[1] as usize], &workloads);
         both(check, random, &file);
         both(check, random, &file[..file.len() - 1]);
         both(check, random, &[&file[..], &[0]].concat());
@@ -141,14 +144,14 @@ fn about_limits(check: &mut Check, random: &mut Random) {
 }
 
 /// Some sites' files at every length from that of the header to beyond the longer of the two that are taken; the workloads are good,
-/// or the last of them is not.
+/// or the last of them is not. Two of the sites have lone vertices.
 fn every_length(check: &mut Check, random: &mut Random) {
     let path = |n: u32| (1..n).map(|v| (v - 1, v)).collect::<Vec<_>>();
-    for (n, links) in [(0, vec![]), (1, vec![]), (2, vec![]), (4, path(4)), (64, path(64)), (64, path(2))] {
+    for (n, linked) in [(0, 0), (1, 1), (2, 2), (4, 4), (64, 64), (2, 0), (64, 2)] {
         for last in [10_000, 10_001, 0] {
             let mut workloads = vec![1; n as usize + 3];
             workloads[(n as usize).saturating_sub(1)] = last;
-            let file = link_file::write([n, 0, 1, 1, 1, 0, 1], &links, &workloads);
+            let file = link_file::write([n, 0, 1, 1, 1, 0, 1], &path(linked), &workloads);
             for length in 28..=file.len() {
                 both(check, random, &file[..length]);
             }
@@ -162,49 +165,112 @@ fn with_word(file: &[u8], at: usize, number: u32) -> Vec<u8> {
     file
 }
 
-/// A header, links and workloads (or none) that the check accepts, of any shape of site.
-fn good(random: &mut Random) -> ([u32; 7], Vec<(u32, u32)>, Vec<u32>) {
+/// A site within a file's limits, of any shape, now and then with more vertices, and each of them linked if there is another.
+fn linked_site(random: &mut Random) -> Site {
     let size = random.pick(&[3, 8, 20, 64]);
-    let site = sites::any(random, size);
-    let mut links: Vec<_> = site.links().iter().map(|&(a, b)| (a as u32, b as u32)).collect();
-    while links.len() > LIMITS[1] as usize {
-        links.remove(random.index(links.len()));
+    let site = sites::few_links(random, size);
+    let n = site.vertices() as u64;
+    let n = if random.once_in(4) { random.between(n, LIMITS[0].into()) } else { n };
+    sites::linked_up(random, &Site::new(n as usize, &site.links()))
+}
+
+/// The same with a lone vertex among two or more: the first, the last or any has lost its links; or there are some more, or one; or
+/// there is no link at all.
+fn lone_site(random: &mut Random) -> Site {
+    let site = linked_site(random);
+    let (n, most) = (site.vertices(), LIMITS[0] as usize);
+    let kind = if n == 1 { 0 } else { random.below(8) };
+    match kind {
+        0 if n < most => Site::new(n + 1 + random.index(most - n), &site.links()),
+        1 if n < most => Site::new(n + 1, &site.links()),
+        2 => Site::new(n, &[]),
+        _ => sites::with_lone(random, &site),
     }
-    // now and then lone vertices at the end
-    let n = site.vertices() as u32;
-    let n = if random.once_in(4) { random.between(n.into(), LIMITS[0].into()) as u32 } else { n };
+}
+
+/// A header, links and workloads (or none) of such a site: nothing else is wrong.
+fn filed(random: &mut Random, site: fn(&mut Random) -> Site) -> ([u32; 7], Vec<(u32, u32)>, Vec<u32>) {
+    let site = site(random);
+    let n = site.vertices();
+    let links = site.links().iter().map(|&(a, b)| (a as u32, b as u32)).collect();
     let any = |random: &mut Random| (random.draw() >> random.between(32, 63)) as u32;
-    let header = [n, 0, random.below(9) as u32, random.below(13) as u32, any(random), any(random), any(random)];
-    let workloads = if random.once_in(2) { Vec::new() } else { sites::some_workloads(random, n as usize) };
+    let header = [n as u32, 0, random.below(9) as u32, random.below(13) as u32, any(random), any(random), any(random)];
+    let workloads = if random.once_in(2) { Vec::new() } else { sites::some_workloads(random, n) };
     (header, links, workloads)
+}
+
+/// A file that is refused by this number, or accepted if it is 0.
+fn known(check: &mut Check, random: &mut Random, file: &[u8], number: u32) {
+    let cause = link_file::check(file).err().unwrap_or(0);
+    assert_eq!(cause, number, "{}", shown(file, [0; 3]));
+    both(check, random, file);
 }
 
 fn good_files(check: &mut Check, random: &mut Random, count: u64) {
     for _ in 0..count {
-        let (header, links, workloads) = good(random);
-        let file = link_file::write(header, &links, &workloads);
-        assert!(link_file::check(&file).is_ok(), "not good: {}", shown(&file, [0; 3]));
-        both(check, random, &file);
+        let (header, links, workloads) = filed(random, linked_site);
+        known(check, random, &link_file::write(header, &links, &workloads), 0);
     }
 }
 
-/// One or two of: wrong links, wrong workloads, wrong bytes.
+/// Lone vertices, and half of the time what comes before them: a number above its limit, a wrong link, a wrong workload.
+fn lone_files(check: &mut Check, random: &mut Random, count: u64) {
+    for _ in 0..count {
+        let (mut header, mut links, mut workloads) = filed(random, lone_site);
+        let number = random.pick(&[14, 14, 14, 3, 10, 13]);
+        match number {
+            3 => {
+                let i = random.pick(&[0, 2, 3]);
+                header[i] = LIMITS[i] + 1 + random.below(3) as u32;
+            }
+            10 => wrong_link(random, header[0], &mut links),
+            13 => wrong_workload(random, header[0] as usize, &mut workloads),
+            _ => {}
+        }
+        known(check, random, &link_file::write(header, &links, &workloads), number);
+    }
+}
+
+/// One or two of: lone vertices, wrong links, wrong workloads, wrong bytes.
 fn damaged_files(check: &mut Check, random: &mut Random, count: u64) {
     for _ in 0..count {
-        let (header, mut links, mut workloads) = good(random);
-        let kind = random.below(6);
-        if matches!(kind, 0 | 3 | 4) {
+        let kinds = [random.below(4), random.below(4)];
+        let site = if kinds.contains(&0) { lone_site } else { linked_site };
+        let (header, mut links, mut workloads) = filed(random, site);
+        if kinds.contains(&1) {
             spoil_links(random, header[0], &mut links);
         }
-        if matches!(kind, 1 | 3 | 5) {
+        if kinds.contains(&2) {
             spoil_workloads(random, header[0] as usize, &mut workloads);
         }
         let mut file = link_file::write(header, &links, &workloads);
-        if matches!(kind, 2 | 4 | 5) {
+        if kinds.contains(&3) {
             file = spoil_bytes(random, file);
         }
         both(check, random, &file);
     }
+}
+
+/// A link turned, with one end twice or beyond the vertices, standing twice or before its turn. No vertex gets a link by it.
+fn wrong_link(random: &mut Random, n: u32, links: &mut Vec<(u32, u32)>) {
+    if links.is_empty() {
+        links.push((n, n + 1));
+    }
+    let i = random.index(links.len());
+    let (low, high) = links[i];
+    match random.below(5) {
+        0 => links[i] = (high, low),
+        1 => links[i] = (low, low),
+        2 if i > 0 => links[i] = links[i - 1],
+        3 if i > 0 => links.swap(i - 1, i),
+        _ => links[i].1 = n,
+    }
+}
+
+/// A workload out of its range.
+fn wrong_workload(random: &mut Random, n: usize, workloads: &mut Vec<u32>) {
+    workloads.resize(n, 1);
+    workloads[random.index(n)] = random.pick(&[0, 10_001, 1 << 14, 1 << 16, 1 << 24, u32::MAX]);
 }
 
 /// A workload out of its range, or one too few, or one too many.
@@ -213,7 +279,7 @@ fn spoil_workloads(random: &mut Random, n: usize, workloads: &mut Vec<u32>) {
     match random.below(6) {
         0 => drop(workloads.pop()),
         1 => workloads.push(1),
-        _ => workloads[random.index(n)] = random.pick(&[0, 10_001, 1 << 14, 1 << 16, 1 << 24, u32::MAX]),
+        _ => wrong_workload(random, n, workloads),
     }
 }
 

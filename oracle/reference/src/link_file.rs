@@ -1,6 +1,7 @@
-//! Rule 9 and request P1, read from documents 01 and 02 alone: the Rust has no link file.
+//! Rule 9 and requests P1 and P7, read from documents 01 and 02 alone: the Rust has no link file.
 use crate::answers::{Options, workloads_cause};
 use crate::sites::{Question, Site};
+use std::collections::HashSet;
 
 /// "The program allows n ≤ 64, e ≤ 128, k ≤ 8, max_levels ≤ 12": the header's first four numbers.
 pub const LIMITS: [u32; 4] = [64, 128, 8, 12];
@@ -50,6 +51,10 @@ pub fn check(file: &[u8]) -> Result<Contents, u32> {
     let workloads = if carried.is_empty() { vec![1; n] } else { carried.to_vec() };
     if workloads_cause(&workloads, n as u64) != 0 {
         return Err(13);
+    }
+    // "a lone turbine where n is 2 or more": all ends are below n, so that n different ones leave no vertex out
+    if n >= 2 && ends.iter().collect::<HashSet<_>>().len() < n {
+        return Err(14);
     }
     Ok(Contents { header: *header, site: Site::new(n, &links), workloads })
 }

@@ -1,5 +1,6 @@
 //! Sites to compare on: a graph by its links, as sound lent lists, and generators of many shapes; and divisions asked of them.
 use crate::answers::{MAX_LIST_LENGTH, MAX_PASS_FACTOR, MAX_WORKLOAD, Options, SWAPPING};
+use crate::link_file::LIMITS;
 use crate::random::Random;
 use std::collections::BTreeSet;
 
@@ -50,6 +51,11 @@ impl Site {
     pub fn links(&self) -> Vec<(usize, usize)> {
         let ends = (0..self.vertices()).flat_map(|v| self.row(v).iter().map(move |&u| (v, u as usize)));
         ends.filter(|(v, u)| v < u).collect()
+    }
+
+    /// The vertices without a link.
+    pub fn lone(&self) -> Vec<usize> {
+        (0..self.vertices()).filter(|&v| self.row(v).is_empty()).collect()
     }
 
     /// The same graph with its vertices numbered anew at random: ties fall otherwise.
@@ -283,6 +289,51 @@ pub fn components(random: &mut Random, n: usize) -> Site {
     site
 }
 
+/// A site of any shape with at most as many links as a link file may have. It may have lone vertices, as a file may not.
+pub fn few_links(random: &mut Random, size: usize) -> Site {
+    let site = any(random, size);
+    let mut links = site.links();
+    while links.len() > LIMITS[1] as usize {
+        links.remove(random.index(links.len()));
+    }
+    Site::new(site.vertices(), &links)
+}
+
+/// The same with a link more for each lone vertex, to any other one, if there is another. Where the links are as many as a link
+/// file may have, one goes whose ends both have others: if there were none, the links would be fewer than a file's vertices.
+pub fn linked_up(random: &mut Random, site: &Site) -> Site {
+    let n = site.vertices();
+    let mut links = site.links();
+    let mut degrees: Vec<usize> = (0..n).map(|v| site.row(v).len()).collect();
+    for v in 0..n {
+        if degrees[v] > 0 || n == 1 {
+            continue;
+        }
+        if links.len() == LIMITS[1] as usize {
+            let spare = |&i: &usize| degrees[links[i].0] > 1 && degrees[links[i].1] > 1;
+            let spare: Vec<usize> = (0..links.len()).filter(spare).collect();
+            let (a, b) = links.swap_remove(random.pick(&spare));
+            degrees[a] -= 1;
+            degrees[b] -= 1;
+        }
+        let u = (v + 1 + random.index(n - 1)) % n;
+        links.push((v, u));
+        degrees[v] += 1;
+        degrees[u] += 1;
+    }
+    Site::new(n, &links)
+}
+
+/// The same without the links of one vertex: the first, the last or any.
+pub fn with_lone(random: &mut Random, site: &Site) -> Site {
+    let n = site.vertices();
+    let any = random.index(n);
+    let lone = random.pick(&[0, n - 1, any]);
+    let mut links = site.links();
+    links.retain(|&(a, b)| a != lone && b != lone);
+    Site::new(n, &links)
+}
+
 /// A sound site's lists with one thing wrong, or nothing where the site has nothing to spoil.
 pub fn damaged(random: &mut Random, site: &Site) -> Site {
     let (n, m) = (site.vertices(), site.neighbors.len());
@@ -353,6 +404,27 @@ pub fn usual_options(random: &mut Random) -> Options {
         random.pick(&[0, 30, 100, 200, 333, 334, 499, 500]),
         random.pick(&[1, 2, 3, 10, u64::MAX]),
     ])
+}
+
+/// A question within the limits of a link file, of a site of up to `size` vertices, with workloads of 1. It may have lone vertices.
+pub fn some_question(random: &mut Random, size: usize) -> Question {
+    let site = few_links(random, size);
+    let ranks = 1 + random.index(site.vertices().min(LIMITS[2] as usize)) as u32;
+    let options = Options::of([
+        random.pick(&[1, 2, 3, 12]),
+        random.pick(&[1, 1, 2, 3, 64, u32::MAX.into()]),
+        random.pick(&[0, 30, 100, 200, 333, 334, 499, 500]),
+        random.pick(&[1, 1, 2, 3, 10]),
+    ]);
+    Question::new(site, ranks, options)
+}
+
+/// The same with workloads, and any imbalance: the wider it is, the more sites are divided.
+pub fn some_weighed_question(random: &mut Random, size: usize) -> Question {
+    let mut question = some_question(random, size);
+    question.options.imbalance_per_mille = random.between(0, 500).max(random.between(0, 500));
+    let workloads = some_workloads(random, question.site.vertices());
+    question.weighed(workloads)
 }
 
 /// A list length and a pass factor that a division takes, the small ones often.

@@ -1,9 +1,9 @@
 //! The requests of crates/replay: the samples, sites that tell each slip from the oracle in force, and random sites.
-use reference::answers::{Asked, Options, oracle_partition, partition};
-use reference::link_file::{LIMITS, check, write as file_of};
+use reference::answers::{Asked, oracle_partition, partition};
+use reference::link_file::{check, write as file_of};
 use reference::listing::listing;
 use reference::random::Random;
-use reference::sites::{self, Question, Site};
+use reference::sites::{self, Question};
 use slips::SLIPS;
 use std::fmt::Write;
 use std::path::Path;
@@ -23,41 +23,48 @@ struct Slip {
     asked: Asked,
 }
 
-/// Each slip's sites and the random ones are drawn from a beginning of their own: a slip more changes no other site.
-fn drawing(name: &str) -> Random {
-    Random::new(name.bytes().fold(1, |seed: u64, byte| seed.wrapping_mul(0x0100_0000_01b3) ^ u64::from(byte)))
-}
-
 /// How many sites tell a slip.
 const TELLING: usize = 3;
 /// How many random sites have workloads of 1, and how many others.
 const RANDOM: usize = 300;
 const RANDOM_WEIGHED: usize = 150;
 
-/// A question that a link file can hold, of a random site of up to `size` vertices, cut to the file's limits.
-fn draw(random: &mut Random, size: usize) -> Question {
-    let site = sites::any(random, size);
-    let mut links = site.links();
-    while links.len() > LIMITS[1] as usize {
-        links.remove(random.index(links.len()));
-    }
-    let site = Site::new(site.vertices(), &links);
-    let ranks = 1 + random.index(site.vertices().min(LIMITS[2] as usize)) as u32;
-    let options = Options::of([
-        random.pick(&[1, 2, 3, 12]),
-        random.pick(&[1, 1, 2, 3, 64, u32::MAX.into()]),
-        random.pick(&[0, 30, 100, 200, 333, 334, 499, 500]),
-        random.pick(&[1, 1, 2, 3, 10]),
-    ]);
-    Question::new(site, ranks, options)
+/// Each slip's questions and the random ones are drawn from a beginning of their own: a slip more changes no other site. So are the
+/// links that lone vertices get, which change no site without one.
+struct Drawing {
+    questions: Random,
+    links: Random,
 }
 
-/// The same with workloads, and any imbalance: the wider it is, the more sites are divided.
-fn draw_weighed(random: &mut Random, size: usize) -> Question {
-    let mut question = draw(random, size);
-    question.options.imbalance_per_mille = random.between(0, 500).max(random.between(0, 500));
-    let workloads = sites::some_workloads(random, question.site.vertices());
-    question.weighed(workloads)
+impl Drawing {
+    fn new(name: &str) -> Self {
+        let number = |seed: u64, byte: u8| seed.wrapping_mul(0x0100_0000_01b3) ^ u64::from(byte);
+        let from = |name: &str| Random::new(name.bytes().fold(1, number));
+        Drawing { questions: from(name), links: from(&format!("{name}, linked up")) }
+    }
+
+    /// A question as it comes: it may have lone vertices, as a link file may not.
+    fn draw(&mut self, size: usize, weighed: bool) -> Question {
+        let draw = if weighed { sites::some_weighed_question } else { sites::some_question };
+        draw(&mut self.questions, size)
+    }
+
+    fn link_up(&mut self, question: Question) -> Question {
+        Question { site: sites::linked_up(&mut self.links, &question.site), ..question }
+    }
+
+    /// A question that a link file can hold.
+    fn linked(&mut self, size: usize, weighed: bool) -> Question {
+        let question = self.draw(size, weighed);
+        self.link_up(question)
+    }
+
+    /// The same, but about one in ten has lone vertices, for refusal 14: half of those that come with them.
+    fn mixed(&mut self, size: usize, weighed: bool) -> Question {
+        let question = self.draw(size, weighed);
+        let kept = !question.site.lone().is_empty() && self.links.once_in(2);
+        if kept { question } else { self.link_up(question) }
+    }
 }
 
 /// The file that asks it, without workloads where all are 1; the list length and the pass factor are the defaults, as in any file.
@@ -77,14 +84,13 @@ fn tells(question: &Question, slip: &Slip) -> bool {
 
 /// The first questions that tell the slip: small sites come first.
 fn telling(slip: &Slip) -> Vec<Question> {
-    let mut random = drawing(slip.name);
-    let draw = if slip.weighed { draw_weighed } else { draw };
+    let mut drawing = Drawing::new(slip.name);
     let mut found = Vec::new();
     for (size, tries) in
         [(4, 2_000), (6, 5_000), (9, 20_000), (14, 50_000), (24, 100_000), (40, 200_000), (64, 400_000)]
     {
         for _ in 0..tries {
-            let question = draw(&mut random, size);
+            let question = drawing.linked(size, slip.weighed);
             if tells(&question, slip) {
                 found.push(question);
                 if found.len() == TELLING {
@@ -116,7 +122,7 @@ pub fn answers(mut stdin: &[u8]) -> String {
 pub fn write(samples: Vec<(String, Vec<u8>)>, out: &Path) {
     let mut files = Vec::new();
     let mut text = String::from(
-        "# The requests of crates/replay\n\n`oracle/replay.sh` writes this page, `crates/replay/stdin` and `crates/replay/stdout`: requests by their place in the list, from 1 on, and what each is for. The answers are those of the oracle in force: the Rust with what document 02 asks (`reference/changes.rs`), and unchanged where no request can change the answer. A slip is a copy of it with a mistake (`slips.rs`), and each site named for it is one on which that copy answers otherwise. A request is a link file, so the list length and the pass factor of request P9 are its defaults, 8 and 4.\n\n| requests | for |\n|---|---|\n",
+        "# The requests of crates/replay\n\n`oracle/replay.sh` writes this page, `crates/replay/stdin` and `crates/replay/stdout`: requests by their place in the list, from 1 on, and what each is for. The answers are those of the oracle in force: the Rust with what document 02 asks (`reference/changes.rs`), and unchanged where no request can change the answer. A slip is a copy of it with a mistake (`slips.rs`), and each site named for it is one on which that copy answers otherwise. A request is a link file, so the list length and the pass factor of request P9 are its defaults, 8 and 4. No turbine of a file may be lone (request P7), so the lone turbines of a drawn site are linked up; only some of the random sites keep theirs, for refusal 14.\n\n| requests | for |\n|---|---|\n",
     );
     for (name, file) in samples {
         files.push(file);
@@ -131,37 +137,36 @@ pub fn write(samples: Vec<(String, Vec<u8>)>, out: &Path) {
         writeln!(text, "| {from} to {} | slip `{name}`: {what} ({}) |", files.len(), sizes.join(", "))
             .expect("a string");
     }
-    let random: [(&str, usize, fn(&mut Random, usize) -> Question); 2] =
-        [("random sites", RANDOM, draw), ("random sites with workloads", RANDOM_WEIGHED, draw_weighed)];
-    for (name, count, draw) in random {
-        let (from, mut random) = (files.len() + 1, drawing(name));
-        files.extend((0..count).map(|i| file(&draw(&mut random, if i % 10 == 0 { 64 } else { 20 }))));
-        writeln!(text, "| {from} to {} | {name} of all shapes |", files.len()).expect("a string");
+    for (name, count, weighed) in
+        [("random sites", RANDOM, false), ("random sites with workloads", RANDOM_WEIGHED, true)]
+    {
+        let (before, mut drawing) = (files.len(), Drawing::new(name));
+        files.extend((0..count).map(|i| file(&drawing.mixed(if i % 10 == 0 { 64 } else { 20 }, weighed))));
+        let lone = files[before..].iter().filter(|file| check(file).is_err_and(|number| number == 14)).count();
+        let (from, to) = (before + 1, files.len());
+        writeln!(text, "| {from} to {to} | {name} of all shapes, {lone} of them with lone turbines |")
+            .expect("a string");
     }
 
     store(&files, out);
     std::fs::write(out.join("REQUESTS.md"), text).expect("a file written");
 }
 
-/// Random requests, more than are stored: of eight, four without workloads, three with them, and one with a number changed.
+/// Random requests, more than are stored: of eight, four without workloads, three with them, and one with a number changed. Lone
+/// vertices are as rare among all of them as among the stored ones.
 pub fn write_many(count: usize, out: &Path) {
-    let mut random = drawing("many");
+    let mut drawing = Drawing::new("many");
     let files: Vec<_> = (0..count)
         .map(|i| {
-            let size = if i % 10 == 0 { 64 } else { 20 };
-            match i % 8 {
-                0..4 => file(&draw(&mut random, size)),
-                4..7 => file(&draw_weighed(&mut random, size)),
-                _ => changed(&mut random, size),
-            }
+            let file = file(&drawing.mixed(if i % 10 == 0 { 64 } else { 20 }, i % 8 >= 4));
+            if i % 8 == 7 { changed(&mut drawing.questions, file) } else { file }
         })
         .collect();
     store(&files, out);
 }
 
-/// A file with one of its numbers changed.
-fn changed(random: &mut Random, size: usize) -> Vec<u8> {
-    let mut file = file(&draw_weighed(random, size));
+/// The file with one of its numbers changed.
+fn changed(random: &mut Random, mut file: Vec<u8>) -> Vec<u8> {
     let at = 4 * random.index(file.len() / 4);
     let number = random.between(0, 70) as u32;
     file[at..at + 4].copy_from_slice(&number.to_le_bytes());

@@ -6,8 +6,8 @@ use mathlib.Core.List.{List}
 use borrow.Author.Tests.{not-true, not-false}
 use Rattle.links.specs.Lists.{any}
 use Rattle.links.specs.Workloads.{badWorkload}
-use Rattle.multilevel.specs.File.{linkCountOf, overProgramLimits, goodLength, goodLinks, fileWorkloads, fileCause, Sized}
-use Rattle.multilevel.proofs.FileLaws.{file-short, file-over, file-length, file-links, file-workloads, file-sized}
+use Rattle.multilevel.specs.File.{linkCountOf, overProgramLimits, goodLength, goodLinks, fileWorkloads, hasLone, fileCause, Sized}
+use Rattle.multilevel.proofs.FileLaws.{file-short, file-over, file-length, file-links, file-workloads, file-lone, file-sized}
 use borrow.Author.Needs.{needs}
 use Rattle.multilevel.proofs.file.link_file_cause.Statement.{statement}
 use Rattle.multilevel.proofs.file.link_file_cause.Tie as tie
@@ -26,6 +26,9 @@ second c = c .before .before
 abbrev third : tie.Else4 → tie.Else3
 third c = c .before .before .before .before .before
 
+abbrev fourth : tie.Else5 → tie.Else4
+fourth c = c .before .before .before
+
 limits-pass : (c : tie.Else2) → false ≡ overProgramLimits (bytes (first c))
 limits-pass c = sym (c .if2 .left) ∙ c .before .over-limits .ensures
 
@@ -41,12 +44,15 @@ sized c e q =
     let c2 = second c in
     file-sized (bytes (first c2)) (first c2 .if1 .left) (limits-pass c2) (length-pass c) e q
 
-workloads-told
-    : (c : tie.Else4) (r : Bool) → (let b = bytes (first (second (third c))) in r ≡ any badWorkload (fileWorkloads b) → cond r 13 0 ≡ fileCause b)
-workloads-told c r q =
-    let c3 = third c in
+workloads-pass : (c : tie.Else5) → false ≡ any badWorkload (fileWorkloads (bytes (first (second (third (fourth c))))))
+workloads-pass c = sym (c .if5 .left) ∙ c .before .workload-bad .ensures
+
+lone-told : (c : tie.Else5) (r : Bool) → (let b = bytes (first (second (third (fourth c)))) in r ≡ hasLone b → cond r 14 0 ≡ fileCause b)
+lone-told c r q =
+    let c4 = fourth c in
+    let c3 = third c4 in
     let c2 = second c3 in
-    file-workloads (bytes (first c2)) (first c2 .if1 .left) (limits-pass c2) (length-pass c3) (links-pass c) r q
+    file-lone (bytes (first c2)) (first c2 .if1 .left) (limits-pass c2) (length-pass c3) (links-pass c4) (workloads-pass c) r q
 
 -- ---- the tests
 
@@ -99,10 +105,23 @@ workload-bad-requires c κs =
     (sized (n .before) (e .index .result) (e .index .ensures ∙ e .before .number-at2 .ensures), sym (length-pass (n .before)), c .index2 .ensures ∙ n .number-at .ensures)
 
 returns-5 : tie.Need-returns-5
-returns-5 c = workloads-told (c .before .before .before) true (sym (c .if5 .taken) ∙ c .before .workload-bad .ensures)
+returns-5 c =
+    let c4 = c .before .before .before in
+    let c3 = third c4 in
+    let c2 = second c3 in
+    file-workloads (bytes (first c2)) (first c2 .if1 .left) (limits-pass c2) (length-pass c3) (links-pass c4) (sym (c .if5 .taken) ∙ c .before .workload-bad .ensures)
+
+has-lone-requires : tie.Need-has-lone-requires
+has-lone-requires c κs =
+    let e = fourth c .before .before in
+    let n = e .before .before in
+    (sized (n .before) (e .index .result) (e .index .ensures ∙ e .before .number-at2 .ensures), n .number-at .ensures)
 
 returns-6 : tie.Need-returns-6
-returns-6 c = workloads-told (c .before .before .before) false (sym (c .if5 .left) ∙ c .before .workload-bad .ensures)
+returns-6 c = lone-told (c .before .before) true (sym (c .if6 .taken) ∙ c .before .has-lone .ensures)
+
+returns-7 : tie.Need-returns-7
+returns-7 c = lone-told (c .before .before) false (sym (c .if6 .left) ∙ c .before .has-lone .ensures)
 
 pub link-file-cause-spec : {M : Type 1} → statement M
 link-file-cause-spec =
@@ -121,4 +140,6 @@ link-file-cause-spec =
     index-requires-2
     workload-bad-requires
     returns-5
-    returns-6)
+    has-lone-requires
+    returns-6
+    returns-7)
