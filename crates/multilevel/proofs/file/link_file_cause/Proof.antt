@@ -38,7 +38,7 @@ length-pass c = sym (not-false _ (c .if3 .left)) ∙ c .before .length-good .ens
 links-pass : (c : tie.Else4) → true ≡ goodLinks (bytes (first (second (third c))))
 links-pass c = sym (not-false _ (c .if4 .left)) ∙ c .before .links-good .ensures
 
--- what the tests of links and workloads take
+-- what the tests of links, workloads and lone vertices take
 sized : (c : tie.Else3) (e : ℕ) → (let b = bytes (first (second c)) in e ≡ linkCountOf b → Sized b e)
 sized c e q =
     let c2 = second c in
