@@ -1,13 +1,13 @@
 -- Laws of the link file's tests, each as the code meets it. Assumes nothing.
 use Prim.Native.Nat.{ℕ, _+_, _-_, _≤_, _<_}
 use mathlib.Core.Path.{_≡_, refl, sym, _∙_}
-use mathlib.Core.Bool.{Bool, true, false, not, _&&_, _||_, cond}
+use mathlib.Core.Bool.{Bool, true, false, _&&_, _||_, cond}
 use mathlib.Core.List.{List}
 use native.Mathlib.Omega.{arith}
 use lib.ListN.{length}
 use lib.Dec.{ltb, eqb}
 use borrow.Author.Tests.{ltb-false, lt-ltb, le-ltb, eq-eqb, ne-eqb}
-use Rattle.links.specs.Lists.{any, range}
+use Rattle.links.specs.Lists.{any, all, range}
 use Rattle.links.specs.Options.{badListLength, badSwaps}
 use Rattle.links.specs.Workloads.{badWorkload, badWorkloads}
 use Rattle.links.proofs.ListLaws.{split, and-l, and-r, or-l, or-r, any-range, to-any, elem-range}
@@ -44,6 +44,10 @@ module _ (b : List ℕ) (i n x y : ℕ) (en : n ≡ vertexCountOf b) (ex : x ≡
   unfolding goodLink
   link-later h k e r q = rw (lt-ltb (lowEnd b i) (highEnd b i) (omega arith), lt-ltb (highEnd b i) (vertexCountOf b) (omega arith), ne-eqb i 0 e) q
 
+-- a test of all links, as a loop over them meets it first
+pub every-link : (b : List ℕ) (e : ℕ) → Sized b e → (p : ℕ → Bool) → all p (range 0 (e - 0)) ≡ all p (range 0 (linkCountOf b))
+every-link b e s p = let z : e - 0 ≡ linkCountOf b = omega (arith, s .links) in rw z
+
 -- ---- lone vertices
 
 module _ (b : List ℕ) (v i x : ℕ) (ex : x ≡ lowEnd b i) where
@@ -54,17 +58,6 @@ module _ (b : List ℕ) (v i x : ℕ) (ex : x ≡ lowEnd b i) where
   pub end-high : (x ≡ v → ⊥) → (y : ℕ) → y ≡ highEnd b i → eqb y v ≡ isEnd b v i
   unfolding isEnd
   end-high d y ey = rw (ne-eqb (lowEnd b i) v (λ q. d (ex ∙ q)), ey)
-
--- the links gone through up to i: none has v as an end, so those from i on decide
-module _ (b : List ℕ) (v e i : ℕ) (s : not (any (isEnd b v) (range i (e - i))) ≡ loneIn b v) where
-  pub lone-ends : i < e → isEnd b v i ≡ true → false ≡ loneIn b v
-  lone-ends h t = rw (any-range (isEnd b v) i e h, t) at s
-
-  pub lone-more : i < e → isEnd b v i ≡ false → not (any (isEnd b v) (range (i + 1) (e - (i + 1)))) ≡ loneIn b v
-  lone-more h t = rw (any-range (isEnd b v) i e h, t) at s
-
-  pub lone-done : e ≤ i → true ≡ loneIn b v
-  lone-done h = let z : e - i ≡ 0 = omega arith in rw z at s
 
 -- the vertices gone through from the last down
 pub lone-next

@@ -10,7 +10,7 @@ use native.Mathlib.Nat.{zero-add}
 use lib.ListN.{length, length-append, length-map}
 use lib.Dec.{ltb, eqb}
 use borrow.Author.Tests.{eq-eqb, ne-eqb, lt-ltb, ltb-true, eqb-true, eqb-false}
-use Rattle.links.specs.Lists.{All, any, range, elem, empty, concatMap}
+use Rattle.links.specs.Lists.{All, any, all, range, elem, empty, concatMap}
 use Rattle.links.specs.Graph.{row, strictlyRising, rowsOf, packed, Sound, SoundLists}
 use Rattle.links.proofs.ListLaws.{split, any-ext, eqb-sym, and-l, and-r, all-of, all-to, all-in, all-append, all-filter, all-range, any-none, elem-filter, elem-range, elem-concat, length-range, total, total-ext, total-add, total-zero, total-point, and-true}
 use Rattle.links.proofs.RangeLaws.{filter-ext, range-snoc, concat-append, filter-rises, rises-snoc, rising-filter}
@@ -206,7 +206,7 @@ module _ (b : List ℕ) where
     unfolding loneIn rowUpTo
     lone-row v = rw (← row-made v) (go (range 0 (linkCountOf b)))
       where
-        go : (is : List ℕ) → not (any (isEnd b v) is) ≡ empty (concatMap (otherEnd b v) is)
+        go : (is : List ℕ) → all (λ i. not (isEnd b v i)) is ≡ empty (concatMap (otherEnd b v) is)
         go [] = refl
         go (i ∷ is) =
             rw (empty-append (otherEnd b v i) (concatMap (otherEnd b v) is), other-empty v i, ← go is)
@@ -215,10 +215,10 @@ module _ (b : List ℕ) where
     pub linked-rows : hasLone b ≡ false → 1 < vertexCountOf b → (v : ℕ) → v < vertexCountOf b → empty (fileRow b v) ≡ false
     unfolding hasLone
     linked-rows l h v k =
-        let all = range 0 (vertexCountOf b) in
-        let none : any (loneIn b) all ≡ false = rw (lt-ltb 1 (vertexCountOf b) h) at l in
+        let vs = range 0 (vertexCountOf b) in
+        let none : any (loneIn b) vs ≡ false = rw (lt-ltb 1 (vertexCountOf b) h) at l in
         sym (lone-row v)
-        ∙ all-in (λ u. loneIn b u ≡ false) all v (any-none (loneIn b) all none) (elem-range v 0 (vertexCountOf b) (omega arith) (omega arith))
+        ∙ all-in (λ u. loneIn b u ≡ false) vs v (any-none (loneIn b) vs none) (elem-range v 0 (vertexCountOf b) (omega arith) (omega arith))
 
     -- ---- sound rows
 

@@ -79,9 +79,9 @@ fileWorkloads b =
 unfoldable pub isEnd : List ℕ → ℕ → ℕ → Bool
 isEnd b v i = eqb (lowEnd b i) v || eqb (highEnd b i) v
 
--- a "turbine without a link"
+-- a "turbine without a link": no link has v as an end
 unfoldable pub loneIn : List ℕ → ℕ → Bool
-loneIn b v = not (any (isEnd b v) (range 0 (linkCountOf b)))
+loneIn b v = all (λ i. not (isEnd b v i)) (range 0 (linkCountOf b))
 
 -- "a lone turbine where n is 2 or more"
 unfoldable pub hasLone : List ℕ → Bool

@@ -1,10 +1,11 @@
 -- The invariant: from i on all links are good just where all are. Assumes nothing.
 use Prim.Native.Nat.{_≤_, _-_}
-use mathlib.Core.Path.{_≡_, sym, refl, _∙_}
+use mathlib.Core.Path.{_≡_, sym, _∙_}
 use native.Mathlib.Omega.{arith}
 use Rattle.links.specs.Lists.{all, range}
-use Rattle.multilevel.specs.File.{goodLink, goodLinks, linkCountOf}
 use Rattle.links.proofs.RangeLaws.{all-more, all-ends, all-done}
+use Rattle.multilevel.specs.File.{goodLink, goodLinks}
+use Rattle.multilevel.proofs.FileLaws.{every-link}
 use borrow.Author.Needs.{needs}
 use Rattle.multilevel.proofs.file.links_good.Statement.{statement}
 use Rattle.multilevel.proofs.file.links_good.Tie as tie
@@ -17,7 +18,7 @@ abbrev μ-loop : tie.MeasureT-loop
 
 loop-holds : tie.Need-loop-holds Inv-loop μ-loop
 unfolding goodLinks
-loop-holds c = (omega arith, let z : c .before .args .e - 0 ≡ linkCountOf (c .before .args .b .now) = omega (arith, c .before .pre .0 .links) in rw z refl)
+loop-holds c = (omega arith, every-link (c .before .args .b .now) (c .before .args .e) (c .before .pre .0) (goodLink (c .before .args .b .now)))
 
 link-good-requires : tie.Need-link-good-requires Inv-loop μ-loop
 link-good-requires c κs = search needs
