@@ -1,6 +1,8 @@
--- The sites by hand and the causes before the work come out as 01 and 02 say: by computation. Assumes nothing.
+-- The sites by hand, the causes before the work and the link files come out as 01 and 02 say: by computation. Assumes nothing.
 use mathlib.Core.Path.{_≡_, refl}
+use mathlib.Core.Bool.{cond}
 use mathlib.Core.List.{map}
+use lib.Dec.{eqb}
 use Rattle.links.specs.Loads.{share, loadCap, minimumLoad, balance}
 use Rattle.links.specs.Graph.{neighborsCause, neighborsOf, rowsOf, badOffsets, goodRow, badLists, linksIn, load, owned, cutEntries, foreignNeighbors, volume}
 use Rattle.links.specs.Owners.{badRanks, tooMany, strayOwner, emptyRank, fromOwners}
@@ -13,7 +15,8 @@ use Rattle.stages.specs.Moves.{after, linked, gain, repeat, mayLeave, mayJoin, 
 use Rattle.stages.specs.Swaps.{ahead, candidates, sooner, propose, proposals, allProposals, inBalance, keepsBalance, applies, swapPass, refineFinePairSwaps}
 use Rattle.multilevel.specs.Causes.{badCounts, overLimits, workNeed, tooShort, earlyCause}
 use Rattle.multilevel.specs.Division.{coarsenings, refine, grow, solve, statsOf, abtmMultilevelPartition, division}
-use Rattle.multilevel.specs.Sites.{swapsOn, found, stated, byHand, early}
+use Rattle.multilevel.specs.File.{number, lowEnd, highEnd, overProgramLimits, linkBefore, goodLink, goodLinks, goodLength, fileWorkloads, isEnd, loneIn, hasLone, fileCause, readerCause}
+use Rattle.multilevel.specs.Sites.{swapsOn, found, stated, byHand, early, files}
 
 -- every definition of rules 1 to 8 is opened, and each side computes to the same table
 pub by-hand : (map found byHand ≡ map stated byHand) × (map found early ≡ map stated early)
@@ -27,3 +30,11 @@ unfolding byHand early swapsOn
     ahead candidates sooner propose proposals allProposals inBalance keepsBalance applies swapPass refineFinePairSwaps
     badCounts overLimits badWorkload badWorkloads workNeed tooShort earlyCause coarsenings refine grow solve statsOf abtmMultilevelPartition division
 by-hand = (refl, refl)
+
+-- the check of each file; and the reader, lent nothing, answers 5 only where the check has nothing to say
+pub files-by-hand
+    : (map (λ f. fileCause (f .0)) files ≡ map (λ f. f .1) files)
+    × (map (λ f. readerCause (f .0) 0 0 0) files ≡ map (λ f. cond (eqb (f .1) 0) 5 (f .1)) files)
+unfolding files number lowEnd highEnd overProgramLimits linkBefore goodLink goodLinks goodLength badWorkload badWorkloads fileWorkloads
+    isEnd loneIn hasLone fileCause readerCause
+files-by-hand = (refl, refl)

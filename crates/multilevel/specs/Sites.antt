@@ -1,9 +1,9 @@
--- The sites by hand of 01, some for requests of 02, and the causes that come before the work, as two tables of claims. proofs/SiteLaws.antt proves
--- each table by computation. Assumes nothing.
-use Prim.Native.Nat.{ℕ, _+_, _-_, _*_}
+-- The sites by hand of 01, some for requests of 02, the causes that come before the work, and link files good and bad, as three tables of claims.
+-- proofs/SiteLaws.antt proves each table by computation. Assumes nothing.
+use Prim.Native.Nat.{ℕ, _+_, _-_, _*_, _/_}
 use mathlib.Core.Bool.{_&&_, _||_}
-use mathlib.Core.List.{List, [], _∷_, map}
-use lib.ListN.{length, replicate}
+use mathlib.Core.List.{List, [], _∷_, _++_, map}
+use lib.ListN.{length, take, replicate}
 use lib.Dec.{eqb}
 use Rattle.links.specs.Lists.{filter, any, foldl, range, sum, concatMap}
 use Rattle.links.specs.Loads.{balance, saturating}
@@ -263,4 +263,66 @@ early =
     ∷ ends (lent pairOffsets pair 2 (1, 1, 30, 2) 1 194) (refused 5)
     ∷ ends (lent pairOffsets pair 2 (1, 1, 30, 2) 2 193) (refused 5)
     ∷ ends (lent pairOffsets pair 2 (1, 1, 30, 18446744073709551615) 2 194) (divided (0 ∷ 1 ∷ []) (stats 0 2 0 0 0 0 2 2))
+    ∷ []
+
+-- ---- link files, each with what the check answers
+
+-- "u32 little-endian": the file of these numbers, all below 65,536
+abbrev pub fileOf : List ℕ → List ℕ
+fileOf numbers = concatMap (λ x. (x - 256 * (x / 256)) ∷ (x / 256) ∷ 0 ∷ 0 ∷ []) numbers
+
+-- n, e, k and max_levels, and the other sizes of P4
+abbrev pub headed : ℕ → ℕ → ℕ → ℕ → List ℕ → List ℕ
+headed n e k levels rest = n ∷ e ∷ k ∷ levels ∷ 64 ∷ 30 ∷ 2 ∷ rest
+
+-- "sizes 4 3 2 12 64 30 2, lows 0 1 2, highs 1 2 3"
+abbrev pub pathFile : List ℕ
+pathFile = headed 4 3 2 12 (0 ∷ 1 ∷ 2 ∷ 1 ∷ 2 ∷ 3 ∷ [])
+
+-- four vertices and two links, by low and then high ends
+abbrev pub twoLinks : ℕ → ℕ → ℕ → ℕ → List ℕ
+twoLinks a b c d = headed 4 2 2 12 (a ∷ b ∷ c ∷ d ∷ [])
+
+-- in the order of the tests; a file for which later ones hold too shows which comes first
+unfoldable pub files : List (List ℕ × ℕ)
+files =
+    (fileOf pathFile, 0)
+    -- under 28 bytes
+    ∷ ([], 10)
+    ∷ (take 27 (fileOf (headed 65 0 9 13 [])), 10)
+    -- a limit passed, and a wrong length
+    ∷ (fileOf (headed 65 1 8 12 []), 3)
+    ∷ (fileOf (headed 64 129 8 12 []), 3)
+    ∷ (fileOf (headed 64 1 9 12 []), 3)
+    ∷ (fileOf (headed 64 1 8 13 []), 3)
+    -- a wrong length: no links, with every size at its limit too; a byte too few, one too many; a workload too few, one too many
+    ∷ (fileOf (headed 64 128 8 12 []), 10)
+    ∷ (fileOf (headed 4 3 2 12 []), 10)
+    ∷ (take 51 (fileOf pathFile), 10)
+    ∷ (fileOf pathFile ++ 0 ∷ [], 10)
+    ∷ (fileOf (pathFile ++ 0 ∷ 1 ∷ 1 ∷ []), 10)
+    ∷ (fileOf (pathFile ++ 0 ∷ 1 ∷ 1 ∷ 1 ∷ 1 ∷ []), 10)
+    -- a wrong link, where a vertex is lone too: from itself, turned, to vertex n, falling by low end and by high end, twice
+    ∷ (fileOf (twoLinks 0 1 1 1), 10)
+    ∷ (fileOf (twoLinks 0 2 1 1), 10)
+    ∷ (fileOf (twoLinks 0 1 1 4), 10)
+    ∷ (fileOf (twoLinks 1 0 2 1), 10)
+    ∷ (fileOf (twoLinks 0 0 2 1), 10)
+    ∷ (fileOf (twoLinks 0 0 1 1), 10)
+    ∷ (fileOf (twoLinks 0 1 1 1 ++ 0 ∷ 1 ∷ 1 ∷ 1 ∷ []), 10)
+    -- a workload of 0, one of 10,001, where a vertex is lone too; 1 and 10,000 are taken
+    ∷ (fileOf (twoLinks 0 1 1 2 ++ 1 ∷ 1 ∷ 1 ∷ 0 ∷ []), 13)
+    ∷ (fileOf (twoLinks 0 1 1 2 ++ 10001 ∷ 1 ∷ 1 ∷ 1 ∷ []), 13)
+    ∷ (fileOf (pathFile ++ 1 ∷ 10000 ∷ 1 ∷ 10000 ∷ []), 0)
+    -- a lone vertex: the last, the first, one between, each of two, "four turbines, no links"; with workloads
+    ∷ (fileOf (twoLinks 0 1 1 2), 14)
+    ∷ (fileOf (twoLinks 1 2 2 3), 14)
+    ∷ (fileOf (twoLinks 0 2 2 3), 14)
+    ∷ (fileOf (headed 2 0 2 12 []), 14)
+    ∷ (fileOf (headed 4 0 2 12 []), 14)
+    ∷ (fileOf (twoLinks 0 1 1 2 ++ 1 ∷ 1 ∷ 1 ∷ 1 ∷ []), 14)
+    -- none: every vertex a low end or a high one, "one turbine only", no vertex at all
+    ∷ (fileOf (twoLinks 0 1 2 3), 0)
+    ∷ (fileOf (headed 1 0 1 12 []), 0)
+    ∷ (fileOf (headed 0 0 1 12 []), 0)
     ∷ []
