@@ -1,5 +1,5 @@
 -- Laws of tests and of the functions on lists that the rules are written with. Assumes nothing.
-use Prim.Native.Nat.{ℕ, zero, suc, _+_, _-_, _≤_, _<_}
+use Prim.Native.Nat.{ℕ, zero, suc, _+_, _-_, _*_, _≤_, _<_}
 use mathlib.Core.Path.{_≡_, refl, sym, ap, _∙_, subst}
 use mathlib.Core.Bool.{Bool, true, false, not, _&&_, _||_, cond, true≢false, false≢true}
 use mathlib.Core.List.{List, [], _∷_, _++_, map, nil≢cons, head-eq-of-cons-eq, tail-eq-of-cons-eq}
@@ -40,6 +40,22 @@ and-l false b e = absurd (false≢true e)
 pub and-r : (a b : Bool) → a && b ≡ true → b ≡ true
 and-r true b e = e
 and-r false b e = absurd (false≢true e)
+
+pub and-true : (b : Bool) → b && true ≡ b
+and-true true = refl
+and-true false = refl
+
+pub and-false : (b : Bool) → b && false ≡ false
+and-false true = refl
+and-false false = refl
+
+pub or-true : (b : Bool) → b || true ≡ true
+or-true true = refl
+or-true false = refl
+
+pub or-false : (b : Bool) → b || false ≡ b
+or-false true = refl
+or-false false = refl
 
 -- ---- from least to most
 
@@ -177,6 +193,22 @@ module _ {A : Type 0} where
   pub count-length : (p : A → Bool) (xs : List A) → count p xs ≤ length xs
   count-length p [] = omega arith
   count-length p (x ∷ xs) = split (p x) (λ q. omega (arith, count-is p x xs true q, count-length p xs)) (λ q. omega (arith, count-is p x xs false q, count-length p xs))
+
+  -- all of a list pass
+  pub count-all : (p : A → Bool) (xs : List A) → All (λ x. p x ≡ true) xs → count p xs ≡ length xs
+  count-all p [] a = refl
+  count-all p (x ∷ xs) a = omega (arith, count-is p x xs true (a .0), count-all p xs (a .1))
+
+  -- tests that never pass together
+  pub count-apart : (p q : A → Bool) → ((x : A) → p x ≡ true → q x ≡ false) → (xs : List A) → count p xs + count q xs ≤ length xs
+  count-apart p q e [] = omega arith
+  count-apart p q e (x ∷ xs) =
+      let ih = count-apart p q e xs in
+      split (p x)
+      (λ h. omega (arith, ih, count-is p x xs true h, count-is q x xs false (e x h)))
+      (λ h. split (q x)
+      (λ k. omega (arith, ih, count-is p x xs false h, count-is q x xs true k))
+      (λ k. omega (arith, ih, count-is p x xs false h, count-is q x xs false k)))
 
   pub any-counts : (p : A → Bool) (xs : List A) → any p xs ≡ true → 1 ≤ count p xs
   any-counts p [] e = absurd (false≢true e)
@@ -381,6 +413,18 @@ unfolding total
 total-zero i zero f e = refl
 total-zero i (suc n) f e = omega (arith, total-zero (suc i) n f (λ u k l. e u (omega arith) (omega arith)), e i (omega arith) (omega arith))
 
+-- a sum of less is less
+pub total-le : (i n : ℕ) (f h : ℕ → ℕ) → ((u : ℕ) → i ≤ u → u < i + n → f u ≤ h u) → total i n f ≤ total i n h
+unfolding total
+total-le i zero f h e = omega arith
+total-le i (suc n) f h e = omega (arith, total-le (suc i) n f h (λ u k l. e u (omega arith) (omega arith)), e i (omega arith) (omega arith))
+
+-- a sum of the same
+pub total-same : (i n c : ℕ) → total i n (λ u. c) ≡ n * c
+unfolding total
+total-same i zero c = omega arith
+total-same i (suc n) c = omega (arith, total-same (suc i) n c)
+
 -- a sum in which only v counts
 pub total-point : (i n v : ℕ) (f : ℕ → ℕ) → i ≤ v → v < i + n → total i n (λ u. cond (eqb u v) (f u) 0) ≡ f v
 unfolding total
@@ -413,43 +457,45 @@ unfolding total
 total-swap i zero j n f = sym (total-zero j n (λ y. 0) (λ y h k. refl))
 total-swap i (suc m) j n f = omega (arith, total-swap (suc i) m j n f, total-add j n (f i) (λ y. total (suc i) m (λ x. f x y)))
 
--- counted over a list, or over all numbers with how often each stands in it
-pub counted : (t : ℕ → Bool) (n : ℕ) (l : List ℕ) → All (λ u. u < n) l → total 0 n (λ u. cond (t u) (count (eqb u) l) 0) ≡ count t l
-counted t n [] b = total-zero 0 n _ (λ u h k. split (t u) (λ p. rw p) (λ p. rw p))
-counted t n (w ∷ ws) b =
-    let here : ℕ → ℕ = λ u. cond (eqb u w) (tally (t u)) 0 in
-    let rest : ℕ → ℕ = λ u. cond (t u) (count (eqb u) ws) 0 in
+-- counted over a list, or over all numbers below n with how often each stands in it
+pub counted-below : (t : ℕ → Bool) (n : ℕ) (l : List ℕ) → total 0 n (λ u. cond (t u) (count (eqb u) l) 0) ≡ count (λ u. t u && ltb u n) l
+counted-below t n [] = total-zero 0 n _ (λ u h k. cond-zero (t u))
+counted-below t n (w ∷ ws) =
     total-ext 0 n _ (λ u. here u + rest u) (λ u h k.
     let e = count-cons (eqb u) w ws in
     split (t u)
     (λ p. split (eqb u w) (λ q. simp (p, q) (omega arith)) (λ q. simp (p, q) (omega arith)))
     (λ p. split (eqb u w) (λ q. simp (p, q)) (λ q. simp (p, q))))
     ∙ total-add 0 n here rest
-    ∙ ap (λ (x : ℕ). x + total 0 n rest) (total-point 0 n w (λ u. tally (t u)) (omega arith) (omega (arith, b .0)))
-    ∙ ap (λ (x : ℕ). tally (t w) + x) (counted t n ws (b .1))
-    ∙ sym (count-cons t w ws)
+    ∙ ap (λ (x : ℕ). x + total 0 n rest) first
+    ∙ ap (λ (x : ℕ). tally (t w && ltb w n) + x) (counted-below t n ws)
+    ∙ sym (count-cons (λ u. t u && ltb u n) w ws)
+  where
+    here : ℕ → ℕ
+    here u = cond (eqb u w) (tally (t u)) 0
+
+    rest : ℕ → ℕ
+    rest u = cond (t u) (count (eqb u) ws) 0
+
+    first : total 0 n here ≡ tally (t w && ltb w n)
+    first = split (ltb w n)
+        (λ p. rw (p, and-true) (total-point 0 n w (λ u. tally (t u)) (omega arith) (omega (arith, ltb-true w n p))))
+        (λ p. rw (p, and-false) (total-zero 0 n here (λ u h k. rw (ne-eqb u w (λ e. omega (arith, ltb-false w n p))))))
+
+-- where all are below n
+pub counted : (t : ℕ → Bool) (n : ℕ) (l : List ℕ) → All (λ u. u < n) l → total 0 n (λ u. cond (t u) (count (eqb u) l) 0) ≡ count t l
+counted t n l a = counted-below t n l ∙ go l a
+  where
+    go : (l : List ℕ) → All (λ u. u < n) l → count (λ u. t u && ltb u n) l ≡ count t l
+    go [] a = refl
+    go (w ∷ ws) a =
+        omega (arith, count-is (λ u. t u && ltb u n) w ws (t w) (rw (lt-ltb w n (a .0)) (and-true (t w))), count-cons t w ws, go ws (a .1))
 
 pub sum-ones : (n : ℕ) → sum (replicate n 1) ≡ n
 sum-ones zero = refl
 sum-ones (suc n) = omega (arith, sum-ones n)
 
--- ---- tests
-
-pub and-true : (b : Bool) → b && true ≡ b
-and-true true = refl
-and-true false = refl
-
-pub and-false : (b : Bool) → b && false ≡ false
-and-false true = refl
-and-false false = refl
-
-pub or-true : (b : Bool) → b || true ≡ true
-or-true true = refl
-or-true false = refl
-
-pub or-false : (b : Bool) → b || false ≡ b
-or-false true = refl
-or-false false = refl
+-- ---- ends
 
 -- a number at the end of a list
 pub elem-this : (x : ℕ) (xs : List ℕ) → elem x (xs ++ (x ∷ [])) ≡ true

@@ -1,4 +1,4 @@
--- Laws of owner lists: one owner more counted, met or marked; what the marks are worth. Assumes nothing.
+-- Laws of owner lists: one owner more counted, met or marked; what the marks are worth; what the ranks own together. Assumes nothing.
 use Prim.Native.Nat.{ℕ, _+_, _≤_, _<_}
 use mathlib.Core.Path.{_≡_, refl, _∙_}
 use mathlib.Core.Bool.{Bool, true, false, cond}
@@ -7,11 +7,11 @@ use native.Mathlib.Omega.{arith}
 use lib.ListN.{length, take, drop, set, replicate, length-set, length-replicate, getD-replicate}
 use lib.Seq.{getD-set-same, getD-set-other}
 use lib.Dec.{leb, ltb, eqb}
-use borrow.Author.Tests.{ltb-false, leb-false, eqb-true, eqb-false}
-use Rattle.links.specs.Lists.{at, any, elem, range}
+use borrow.Author.Tests.{ne-eqb, ltb-true, ltb-false, leb-false, eqb-true, eqb-false}
+use Rattle.links.specs.Lists.{at, unassigned, any, elem, range, All}
 use Rattle.links.specs.Graph.{owned}
 use Rattle.links.specs.Owners.{badRanks, tooMany, countsCause, strayOwner, emptyRank, fromOwners, Marked}
-use Rattle.links.proofs.ListLaws.{split, or-true, or-false, tally, any-ext, any-none, any-drop, count-drop, none-counts, all-getD, elem-take}
+use Rattle.links.proofs.ListLaws.{split, or-true, or-false, tally, count, count-all, count-apart, to-all, any-ext, any-none, total, counted-below, counted, any-drop, count-drop, none-counts, all-getD, elem-take}
 
 module _ (owners : List ℕ) (i : ℕ) (h : i < length owners) where
   pub owned-drop : (r : ℕ) → owned (drop i owners) r ≡ tally (eqb r (at owners i)) + owned (drop (i + 1) owners) r
@@ -86,3 +86,17 @@ pub marks-decide : (k : ℕ) (owners marks : List ℕ) (i : ℕ) (b : Bool) → 
     → Marked owners marks (replicate 256 0) → i ≡ k → b ≡ any (λ r. eqb (at marks r) 0) (range 0 i) → cond b 9 0 ≡ fromOwners k owners
 marks-decide k owners marks i b e s m h t =
     rw (t, h, unmarked-empty owners marks 256 k m (counts-limit k (length owners) e)) (rw s at (counts-passed k owners e))
+
+-- ---- what the ranks own together
+
+-- with what nobody owns it is no more than there is
+pub owned-most : (k : ℕ) → k ≤ unassigned → (owners : List ℕ) → total 0 k (owned owners) + count (eqb unassigned) owners ≤ length owners
+unfolding owned
+owned-most k h owners =
+    let apart : (x : ℕ) → ltb x k ≡ true → eqb unassigned x ≡ false = λ x p. ne-eqb unassigned x (λ e. omega (arith, ltb-true x k p)) in
+    omega (arith, counted-below (λ u. true) k owners, count-apart (λ u. ltb u k) (eqb unassigned) apart owners)
+
+-- and all, where every owner is a rank
+pub owned-all : (k : ℕ) (owners : List ℕ) → All (λ x. x < k) owners → total 0 k (owned owners) ≡ length owners
+unfolding owned
+owned-all k owners a = counted (λ u. true) k owners a ∙ count-all (λ u. true) owners (to-all (λ u. true ≡ true) (λ u. refl) owners)

@@ -12,7 +12,7 @@ use borrow.Author.Tests.{eq-eqb, ne-eqb, eqb-true, eqb-false, le-ltb, ltb-true}
 use Rattle.links.specs.Lists.{at, filter, sum, All}
 use Rattle.links.specs.Graph.{row, vertices, degree, vertexCount, rowsOf, Sound, SoundLists, linksIn, linksTo, links, isCut, cutLinks}
 use Rattle.stages.specs.Moves.{Step, move, swap, after, linked, gain}
-use Rattle.links.proofs.ListLaws.{split, eqb-sym, cond-zero, and-false, tally, count, count-cons, count-is, count-length, all-kept, to-all, all-map, all-concat, total, total-ext, total-add, total-point, count-kept, count-concat, counted, or-false}
+use Rattle.links.proofs.ListLaws.{split, eqb-sym, cond-zero, and-false, tally, count, count-cons, count-is, count-length, all-kept, to-all, all-map, all-concat, total, total-ext, total-add, total-le, total-point, count-kept, count-concat, counted, or-false}
 use Rattle.links.proofs.SoundLaws.{occurs, same-links}
 use Rattle.links.proofs.CutLaws.{later, earlier, both-sides}
 use Rattle.links.proofs.RowLaws.{length-rows, length-row}
@@ -255,12 +255,6 @@ step-cut rows so own (swap u v) n i g = swap-gain rows so own u v (i .0) (i .1) 
 
 -- ---- entries
 
--- a sum of less is less
-pub total-le : (i n : ℕ) (f h : ℕ → ℕ) → ((u : ℕ) → f u ≤ h u) → total i n f ≤ total i n h
-unfolding total
-total-le i zero f h e = omega arith
-total-le i (suc n) f h e = omega (arith, total-le (suc i) n f h e, e i)
-
 total-lengths
     : (f : ℕ → ℕ) (rs : List (List ℕ)) (i : ℕ)
     → ((u j : ℕ) → u ≡ i + j → f u ≡ length (getD rs j []))
@@ -282,7 +276,7 @@ cut-entries rows own =
     let few : (v : ℕ) → count (isCut own) (linksAt rows v) ≤ degree rows v =
     λ v. let pair : ℕ → ℕ × ℕ = λ u. (v, u) in
     omega (arith, count-length (isCut own) (linksAt rows v), length-map (filter (ltb v) (row rows v)) pair, count-length (ltb v) (row rows v)) in
-    let most = total-le 0 n (λ v. count (isCut own) (linksAt rows v)) (degree rows) few in
+    let most = total-le 0 n (λ v. count (isCut own) (linksAt rows v)) (degree rows) (λ v h k. few v) in
     omega (arith, count-concat (isCut own) (linksAt rows) 0 n, most, total-degrees rows)
 
 -- the degrees from i on, n of them, are what the offsets climb

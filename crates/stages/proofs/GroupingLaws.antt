@@ -13,10 +13,9 @@ use borrow.Author.Tests.{eq-eqb, ne-eqb, eqb-true, eqb-false, ltb-true, ltb-fals
 use Rattle.links.specs.Lists.{at, unassigned, filter, foldl, range, sum, elem, concatMap, All}
 use Rattle.links.specs.Graph.{row, vertices, degree, strictlyRising, Sound, load}
 use Rattle.stages.specs.Coarsen.{falling, highestDegree, ofDegree, byDegree, closer, partner, Pairing, grouped, match, unmatched, pairing, coarseRow, coarsenOnce}
-use Rattle.links.proofs.ListLaws.{split, eqb-sym, and-l, and-r, and-i, iff-eq, tally, count-length, all-filter, all-to, to-all, all-concat, all-range, all-in, length-range, elem-filter, elem-range, any-of, to-any, any-none, elem-map, elem-concat, best-all, best-kept, total, total-add, total-zero, total-point, count-range}
+use Rattle.links.proofs.ListLaws.{split, eqb-sym, and-l, and-r, and-i, iff-eq, tally, count-length, all-filter, all-to, to-all, all-concat, all-range, all-in, length-range, elem-filter, elem-range, any-of, to-any, any-none, elem-map, elem-concat, best-all, best-kept, total, total-add, total-le, total-zero, total-point, count-range}
 use Rattle.links.proofs.RowLaws.{getD-map-range}
 use Rattle.links.proofs.RangeLaws.{filter-rises}
-use Rattle.stages.proofs.CutLaws.{total-le}
 use Rattle.stages.proofs.GrowthLaws.{unowned-in, vacant, vacant-set}
 use Rattle.stages.proofs.LoadLaws.{loadBy, byIndex, load-by, by-ext, by-all, by-none, by-set, index-snoc, index-ext, index-all, index-load}
 
@@ -134,7 +133,7 @@ elems-few (x ∷ xs) i n =
     let each : (h : ℕ) → tally (elem h (x ∷ xs)) ≤ here h + rest h = λ h. split (eqb h x) (λ p. rw p (omega arith)) (λ p. rw p (omega arith)) in
     omega (
       arith,
-      total-le i n (λ h. tally (elem h (x ∷ xs))) (λ h. here h + rest h) each,
+      total-le i n (λ h. tally (elem h (x ∷ xs))) (λ h. here h + rest h) (λ h k l. each h),
       total-add i n here rest,
       total-once x 1 i n,
       elems-few xs i n,
@@ -145,7 +144,7 @@ pub row-few : (m g : ℕ) (xs : List ℕ) → length (filter (λ h. not (eqb h g
 row-few m g xs =
     let test : ℕ → Bool = λ h. not (eqb h g) && elem h xs in
     let less : (h : ℕ) → tally (test h) ≤ tally (elem h xs) = λ h. split (not (eqb h g)) (λ p. rw p (omega arith)) (λ p. rw p (omega arith)) in
-    omega (arith, count-range test 0 m, total-le 0 m (λ h. tally (test h)) (λ h. tally (elem h xs)) less, elems-few xs 0 m)
+    omega (arith, count-range test 0 m, total-le 0 m (λ h. tally (test h)) (λ h. tally (elem h xs)) (λ h k l. less h), elems-few xs 0 m)
 
 -- ---- the pairing
 
