@@ -33,6 +33,7 @@ pub mod GrowthStartLaws
 pub mod GrowthStageLaws
 pub mod SwapPassLaws
 pub mod RankLaws
+pub mod StuckLaws
 pub mod LevelLaws
 pub mod CoarsenOrderLaws
 pub mod OrderLaws

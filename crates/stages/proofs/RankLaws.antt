@@ -18,7 +18,7 @@ use Rattle.stages.specs.Growth.{Growing, Turn, Choice, passes, claims, r
 abbrev Owned : ℕ → ℕ → Type 0
 Owned k x = (x < k) ⊎ (x ≡ unassigned)
 
-all-replicate : (P : ℕ → Type 0) (n x : ℕ) → P x → All P (replicate n x)
+pub all-replicate : (P : ℕ → Type 0) (n x : ℕ) → P x → All P (replicate n x)
 all-replicate P zero x p = tt
 all-replicate P (suc n) x p = (p, all-replicate P n x p)
 

@@ -33,7 +33,7 @@ module _ {S X : Type 0} (P : S → X → Type 0) (f : S → X → S) where
   along-at (b ∷ before) later (y ∷ ys) s x a e =
       rw (head-eq-of-cons-eq e) at (along-at before later ys (f s y) x (a .1) (tail-eq-of-cons-eq e))
 
-  -- of steps one after the other, and of the first of them
+  -- of steps one after the other, of the first of them and of the last
   pub along-append : (xs ys : List X) (s : S) → Along s xs → Along (foldl f s xs) ys → Along s (xs ++ ys)
   along-append [] ys s a b = b
   along-append (x ∷ xs) ys s a b = (a .0, along-append xs ys (f s x) (a .1) b)
@@ -41,6 +41,10 @@ module _ {S X : Type 0} (P : S → X → Type 0) (f : S → X → S) where
   pub along-prefix : (xs ys : List X) (s : S) → Along s (xs ++ ys) → Along s xs
   along-prefix [] ys s a = tt
   along-prefix (x ∷ xs) ys s a = (a .0, along-prefix xs ys (f s x) (a .1))
+
+  pub along-suffix : (xs ys : List X) (s : S) → Along s (xs ++ ys) → Along (foldl f s xs) ys
+  along-suffix [] ys s a = a
+  along-suffix (x ∷ xs) ys s a = along-suffix xs ys (f s x) (a .1)
 
 -- a weaker fact at each step
 pub along-to
