@@ -1,37 +1,37 @@
--- What the coarsening steps leave: a step is discarded exactly when its level has no link, a step at most halves its level, and so refusal 7 needs
--- coarse_vertices_per_rank = 1. Assumes nothing.
+-- What the coarsening steps leave: a step is discarded exactly when its level has no link, so that numbers tell whether one is kept; a step at most
+-- halves its level, and so refusal 7 needs coarse_vertices_per_rank = 1. Assumes nothing.
 use Prim.Native.Nat.{ℕ, zero, suc, _+_, _*_, _≤_, _<_}
 use mathlib.Core.Path.{_≡_, refl, sym, ap, _∙_, subst}
-use mathlib.Core.Logic.{_↔_, _≢_, ⊎-elim}
+use mathlib.Core.Logic.{_↔_, _≢_, inl, inr, ⊎-elim}
 use mathlib.Core.Bool.{Bool, true, false, cond, false≢true}
-use mathlib.Core.List.{List, [], _∷_}
+use mathlib.Core.List.{List, [], _∷_, nil≢cons}
 use mathlib.Core.Option.{Option, none, some}
 use native.Mathlib.Nat.{mul-comm, mul-le-mul}
 use native.Mathlib.Omega.{arith}
 use lib.ListN.{length, set, replicate, length-append, length-replicate, length-set, getD-replicate}
 use lib.Seq.{getD-set-other}
 use lib.Dec.{leb, ltb, eqb}
-use borrow.Author.Tests.{eq-eqb, ne-eqb, eqb-true, ltb-true, ltb-false, le-ltb, leb-false}
+use borrow.Author.Tests.{eq-eqb, ne-eqb, eqb-true, ltb-true, ltb-false, le-ltb, leb-true, leb-false}
 use Rattle.links.specs.Lists.{at, unassigned, any, filter, foldl, best, elem, All}
 use Rattle.links.specs.Loads.{Balance, balance}
-use Rattle.links.specs.Graph.{row, vertexCount, badLists, Sound}
+use Rattle.links.specs.Graph.{row, degree, vertexCount, badLists, Sound}
 use Rattle.links.specs.Workloads.{badWorkloads}
 use Rattle.links.specs.Options.{badOptions, badSwaps, stopSize}
 use Rattle.stages.specs.Coarsen.{closer, partner, Pairing, grouped, match, unmatched, pairing, byDegree, Coarse, coarsenOnce}
 use Rattle.stages.specs.Seeds.{farthestSeeds}
 use Rattle.stages.specs.Growth.{weightedMultisource, grown}
-use Rattle.stages.specs.Moves.{after, refineByCut}
 use Rattle.stages.specs.declared.swaps.Swapping.{Swapping}
 use Rattle.multilevel.specs.Causes.{Call, badCounts, overLimits, firstOf, tooShort, earlyCause}
-use Rattle.multilevel.specs.Division.{Trace, refused, coarsenings, coarsestRows, takeOver, swappingOf, noSwapping, refine, grow, solve, division}
+use Rattle.multilevel.specs.Division.{refused, coarsenings, coarsestRows, takeOver, swappingOf, noSwapping, grow, solve, division}
 use Rattle.multilevel.specs.Demand3.{siteRows, balanceOf, passesOf, keptSteps}
-use Rattle.links.proofs.ListLaws.{split, all-in, none-filter}
-use Rattle.links.proofs.RowLaws.{length-rows, by-place}
+use Rattle.multilevel.specs.Stuck.{NoStep}
+use Rattle.links.proofs.ListLaws.{split, all-in, none-filter, total-zero}
+use Rattle.links.proofs.RowLaws.{length-rows, length-row, offsets-fit, by-place}
+use Rattle.stages.proofs.CutLaws.{total-degrees, list-entries}
 use Rattle.stages.proofs.GrowthLaws.{vacant, vacant-set}
 use Rattle.stages.proofs.GroupingLaws.{Apart, apart, byDegree-has, byDegree-below, pairing-grouped, pairing-covers, coarse-sound, coarse-weighed, coarse-counted}
 use Rattle.multilevel.proofs.PairedLaws.{partner-none}
-use Rattle.multilevel.proofs.CheckLaws.{unchecked}
-use Rattle.multilevel.proofs.DivisionLaws.{tested}
+use Rattle.multilevel.proofs.DivisionLaws.{Tested, tested, refine-unchecked}
 use Rattle.multilevel.proofs.Demand3Laws.{refused-by}
 
 -- ---- each pair makes one group less than vertices
@@ -218,6 +218,62 @@ module _ (rows : List (List ℕ)) (s : Sound rows) (ws : List ℕ) (small : leng
           everywhere : (v : ℕ) → row rows v ≡ []
           everywhere v = split (ltb v (length rows)) (λ p. e v (ltb-true v (length rows) p)) (λ p. past rows v (ltb-false v (length rows) p))
 
+-- ---- whether a step is kept, by numbers alone
+
+module _ (c : Call) (g : Tested c) where
+  abbrev siteSize : length (siteRows c) ≡ vertexCount (c .offsets)
+  siteSize = length-rows (c .offsets) (c .neighbors)
+
+  -- every row is empty exactly when there is no entry
+  unlinked : (length (c .neighbors) ≡ 0) ↔ ((v : ℕ) → v < length (siteRows c) → row (siteRows c) v ≡ [])
+  unlinked = (empty-rows, no-entries)
+    where
+      nothing : (r : List ℕ) → length r ≡ 0 → r ≡ []
+      nothing [] e = refl
+      nothing (x ∷ r) e = absurd (omega arith)
+
+      empty-rows : length (c .neighbors) ≡ 0 → (v : ℕ) → v < length (siteRows c) → row (siteRows c) v ≡ []
+      empty-rows z v h =
+          let inside : v < vertexCount (c .offsets) = omega (arith, siteSize) in
+          let fits = offsets-fit (c .offsets) (c .neighbors) (g .lists) (v + 1) (omega arith) in
+          nothing (row (siteRows c) v) (omega (arith, length-row (c .offsets) (c .neighbors) (g .lists) v inside))
+
+      no-entries : ((v : ℕ) → v < length (siteRows c) → row (siteRows c) v ≡ []) → length (c .neighbors) ≡ 0
+      no-entries e =
+          let rows = siteRows c in
+          let none = total-zero 0 (length rows) (degree rows) (λ v h l. ap length (e v (omega arith))) in
+          omega (arith, list-entries (c .offsets) (c .neighbors) (g .lists), total-degrees rows)
+
+  pub no-step : (keptSteps c ≡ []) ↔ NoStep c
+  unfolding coarsenings
+  no-step = go (c .options .«max_levels») (g .some-levels)
+    where
+      n : ℕ
+      n = length (siteRows c)
+
+      stop : ℕ
+      stop = stopSize (c .options) (c .ranks)
+
+      groups : ℕ
+      groups = length (coarsenOnce (siteRows c) (c .workloads) .rows)
+
+      discarded : (ltb groups n ≡ false) ↔ ((v : ℕ) → v < n → row (siteRows c) v ≡ [])
+      discarded =
+          step-discarded (siteRows c) (g .lists .sound) (c .workloads) (omega (arith, siteSize, g .few-vertices)) (g .workloads .sized ∙ sym siteSize)
+
+      -- neither of the two, and so it shrinks
+      shrinks : leb n stop ≡ false → ltb groups n ≡ true → ¬ NoStep c
+      shrinks p q =
+          ⊎-elim (λ few. omega (arith, siteSize, leb-false n stop p)) (λ z. false≢true (sym (discarded .1 (unlinked .0 z)) ∙ q))
+
+      go : (l : ℕ) → 1 ≤ l → (coarsenings l stop (siteRows c) (c .workloads) ≡ []) ↔ NoStep c
+      go zero h = absurd (omega arith)
+      go (suc l) h = split (leb n stop)
+          (λ p. rw p (λ e. inl (omega (arith, siteSize, leb-true n stop p)), λ s. refl))
+          (λ p. split (ltb groups n)
+          (λ q. rw (p, q) (λ e. absurd (nil≢cons (sym e)), λ s. absurd (shrinks p q s)))
+          (λ q. rw (p, q) (λ e. inr (unlinked .1 (discarded .0 q)), λ s. refl)))
+
 -- ---- refusal 7
 
 -- steps that stop at twice the ranks leave a group for each
@@ -243,10 +299,6 @@ coarsest-many k (suc l) stop rows ws t h s n w =
     (λ q. rw (p, q) h))
 
 module _ (b : Balance) (passes : ℕ) where
-  refine-7 : (swapping : Swapping) (rows : List (List ℕ)) (ws group : List ℕ) (t : Trace) → refine b passes swapping rows ws group t .refusal ≢ 7
-  unfolding refine
-  refine-7 swapping rows ws group t = unchecked (b .ranks) (foldl after (t .owners) (refineByCut b rows ws passes (t .owners) .steps)) 7 refl
-
   grow-7 : (rows : List (List ℕ)) (ws : List ℕ) → grow b passes rows ws .refusal ≡ 7 → length rows < b .ranks
   unfolding grow
   grow-7 rows ws e =
@@ -271,12 +323,12 @@ module _ (b : Balance) (passes : ℕ) where
   solve-7 [] swapping rows ws e =
       let t = grow b passes rows ws in
       split (eqb (t .refusal) 0)
-      (λ p. absurd (refine-7 swapping rows ws [] t (rw p at e)))
+      (λ p. absurd (refine-unchecked b passes swapping rows ws [] t 7 refl (rw p at e)))
       (λ p. grow-7 rows ws (rw p at e))
   solve-7 (c ∷ cs) swapping rows ws e =
       let t = solve b passes noSwapping (c .rows) (c .weights) cs in
       split (eqb (t .refusal) 0)
-      (λ p. absurd (refine-7 swapping rows ws (c .group) (takeOver (c .group) t) (rw p at e)))
+      (λ p. absurd (refine-unchecked b passes swapping rows ws (c .group) (takeOver (c .group) t) 7 refl (rw p at e)))
       (λ p. solve-7 cs noSwapping (c .rows) (c .weights) (rw p at e))
 
 first-7 : (x q y z w u v : Bool) → _≢_ {A = ℕ} (firstOf x q y z w u v) 7

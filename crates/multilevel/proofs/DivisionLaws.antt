@@ -8,7 +8,7 @@ use native.Mathlib.Omega.{arith}
 use lib.ListN.{length, length-map}
 use lib.Dec.{leb, ltb, eqb}
 use borrow.Author.Tests.{eqb-true, eqb-false, ltb-true, ltb-false}
-use Rattle.links.specs.Lists.{at, unassigned, any, foldl, range, All}
+use Rattle.links.specs.Lists.{at, unassigned, any, foldl, range, elem, All}
 use Rattle.links.specs.Loads.{Balance}
 use Rattle.links.specs.Graph.{vertexCount, badLists, Sound, SoundLists, load, owned}
 use Rattle.links.specs.Workloads.{badWorkloads}
@@ -34,7 +34,7 @@ use Rattle.stages.proofs.GroupingLaws.{coarse-sound, coarse-weighed, coarse-siz
 use Rattle.multilevel.proofs.CauseLaws.{good-options, limited}
 use Rattle.stages.proofs.RankLaws.{grown-ranked, checked-ranked}
 use Rattle.multilevel.proofs.LevelLaws.{level-fair}
-use Rattle.multilevel.proofs.CheckLaws.{moves-ranked, taken-all, checked, unchecked, check-empty}
+use Rattle.multilevel.proofs.CheckLaws.{moves-ranked, taken-all, checkNumbers, checked, unchecked, check-empty}
 
 -- ---- what the causes tested before the work leave
 
@@ -141,6 +141,15 @@ none-empty k owners e r h =
     let z = all-in (λ r. isEmpty r ≡ false) (range 0 k) r (any-none isEmpty (range 0 k) f) (elem-range r 0 k (omega arith) (omega arith)) in
     let d : owned owners r ≢ 0 = eqb-false (owned owners r) 0 z in
     omega arith
+
+-- and its number is none of growth's
+pub refine-unchecked
+    : (b : Balance) (passes : ℕ) (swapping : Swapping) (rows : List (List ℕ)) (ws group : List ℕ) (t : Trace) (number : ℕ)
+    → elem number checkNumbers ≡ false
+    → refine b passes swapping rows ws group t .refusal ≢ number
+unfolding refine
+refine-unchecked b passes swapping rows ws group t =
+    unchecked (b .ranks) (foldl after (t .owners) (refineByCut b rows ws passes (t .owners) .steps))
 
 -- ---- the coarsening steps kept
 

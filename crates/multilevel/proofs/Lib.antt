@@ -17,6 +17,8 @@ pub mod FileWriteLaws
 pub mod FileReadLaws
 pub mod DriverLaws
 pub mod SolveLaws
+pub mod ImbalanceLaws
+pub mod EightLaws
 pub mod FinishLaws
 pub mod RoomLaws
 pub mod LayLaws

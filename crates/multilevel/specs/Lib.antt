@@ -1,6 +1,7 @@
 pub mod Causes
 pub mod Division
 pub mod Demand3
+pub mod Stuck
 pub mod Sites
 pub mod File
 pub mod Contract

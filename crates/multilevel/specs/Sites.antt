@@ -146,9 +146,12 @@ P4 = record { n = 4; links = (0, 1) ∷ (1, 2) ∷ (2, 3) ∷ [] }
 abbrev pub S4 : Site
 S4 = record { n = 4; links = (0, 1) ∷ (0, 2) ∷ (0, 3) ∷ [] }
 
--- the path of five
+-- the paths of five and of three
 abbrev pub P5 : Site
 P5 = record { n = 5; links = (0, 1) ∷ (1, 2) ∷ (2, 3) ∷ (3, 4) ∷ [] }
+
+abbrev pub P3 : Site
+P3 = record { n = 3; links = (0, 1) ∷ (1, 2) ∷ [] }
 
 -- "links 0-1, 2-3, 4-5"
 abbrev pub threePairs : Site
@@ -210,6 +213,9 @@ byHand =
     ∷ ends (tuned 2 4 (site turned 2 (12, 64, 30, 2))) (divided (1 ∷ 0 ∷ 1 ∷ 0 ∷ []) (stats 0 4 0 0 1 1 2 2))
     ∷ ends (tuned 8 1 (site leafed 3 (12, 64, 30, 1))) (divided (1 ∷ 1 ∷ 0 ∷ 0 ∷ 2 ∷ 2 ∷ []) (stats 0 6 0 0 2 1 6 6))
     ∷ ends (tuned 8 2 (site leafed 3 (12, 64, 30, 1))) (divided (1 ∷ 1 ∷ 2 ∷ 0 ∷ 0 ∷ 2 ∷ []) (stats 0 6 0 0 2 2 4 4))
+    -- stuck although k × cap is all that there is: where a step is kept, and with workloads
+    ∷ ends (site threePairs 2 (12, 1, 30, 2)) (refused 8)
+    ∷ ends (laden P3 (1 ∷ 1 ∷ 2 ∷ []) 2 (12, 64, 30, 2)) (refused 8)
     ∷ []
 
 -- ---- causes 1 to 5, 13 and 17, each on a call for which later causes hold too
