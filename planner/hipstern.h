@@ -27,6 +27,17 @@ extern "C" {
  *   imbalance_per_mille  how far a crew's load may be from an equal share, in thousandths of that share: 0 to 500
  *
  * The product saturates at 2^64 - 1. Answers HIPSTERN_NO_LOAD if ranks is 0 or imbalance_per_mille is above 500.
+ *
+ * It tells before a division whether growth will get stuck, which is refusal 8. Where every workload is 1 and no coarsening
+ * step is kept (at most coarse_vertices_per_rank turbines for each crew, or no link at all), a division that passes its first
+ * tests (1 to 5, 13, 17) is refused by 8 exactly when
+ *
+ *     ranks * hipstern_load_cap(turbines, ranks, imbalance_per_mille) < turbines
+ *
+ * that is, when the imbalance is below 1000 * (ranks * ceil(turbines / ranks) - turbines) / turbines, rounded up. Mend: give
+ * that imbalance or more; where it would be above 500, ask for fewer crews. The division is then accepted, but for one case:
+ * with fewer than two turbines for each crew 9 may follow, and only fewer crews mend it. Where turbines were grouped by a
+ * coarsening step, or workloads differ, the cap tells neither that 8 comes nor that it does not.
  */
 uint64_t hipstern_load_cap(uint64_t total, uint32_t ranks, uint32_t imbalance_per_mille);
 
@@ -64,7 +75,7 @@ uint64_t hipstern_minimum_load(uint64_t total, uint32_t ranks, uint32_t imbalanc
  *                        one turbine needs no link.
  *
  * HIPSTERN_OK says that the file can be read. Its division may be refused all the same, for its options (1), its numbers
- * of turbines and crews (2), or because no permitted shares were found (6 to 9).
+ * of turbines and crews (2), or because no permitted shares were found (6 to 9; of 8 the cap tells more, see above).
  */
 uint32_t hipstern_link_file_cause(const uint8_t *file, size_t length);
 

@@ -3,7 +3,8 @@
  *
  *     planner [FILE..]
  *
- * prints the cap and the floor of a crew's load for some sites, then for each link file `FILE ok` or `FILE refused N`.
+ * prints the cap and the floor of a crew's load for some sites, then the imbalance with which growth does not get stuck, then
+ * for each link file `FILE ok` or `FILE refused N`.
  * The exit status is 1 if a file could not be read.
  */
 #include "hipstern.h"
@@ -26,6 +27,23 @@ static void print_loads(uint64_t total, uint32_t ranks, uint32_t imbalance_per_m
     print_load("cap", hipstern_load_cap(total, ranks, imbalance_per_mille));
     print_load("floor", hipstern_minimum_load(total, ranks, imbalance_per_mille));
     printf("\n");
+}
+
+/*
+ * The least imbalance with which a division is not refused by 8, if every workload is 1 and no coarsening step is kept: with
+ * it the crews may have all turbines between them. Above 500 there is none, and there must be fewer crews.
+ */
+static void print_imbalance(uint32_t turbines, uint32_t ranks)
+{
+    uint32_t t = 0;
+
+    while (t <= 500 && ranks * hipstern_load_cap(turbines, ranks, t) < turbines)
+        t++;
+    printf("turbines %" PRIu32 " crews %" PRIu32 ": ", turbines, ranks);
+    if (t <= 500)
+        printf("imbalance %" PRIu32 " or more\n", t);
+    else
+        printf("fewer crews\n");
 }
 
 /* All bytes of a file, to be freed; NULL if it cannot be read. An empty file gives a pointer too. */
@@ -106,6 +124,13 @@ int main(int count, char **words)
     print_loads(4, 2, 501);
     print_loads(4, 2, UINT32_MAX);
     print_loads(4, 0, 501);
+    /* 8 from numbers alone: the path of five, a site of thirteen, equal shares, the most imbalance, more than that, the limits */
+    print_imbalance(5, 2);
+    print_imbalance(13, 3);
+    print_imbalance(12, 3);
+    print_imbalance(4, 3);
+    print_imbalance(9, 8);
+    print_imbalance(16384, 255);
     for (i = 1; i < count; i++)
         if (!print_file(words[i]))
             status = EXIT_FAILURE;
