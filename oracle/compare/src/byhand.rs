@@ -15,9 +15,11 @@ pub type Answer = Result<(&'static [u32], &'static [(usize, u64)]), u32>;
 /// it (request P7); then one where two ranks offer the same gain and the lighter one is not the lower (request P4); and two whose
 /// workloads forbid a swap (request P1): a load is below the floor before it, or above the cap after it; and two that the list
 /// length or the pass factor changes (request P9): a path where only a second candidate has a swap, and a path with a leaf where a
-/// second pass has one more.
+/// second pass has one more; and three where growth gets stuck though k × cap is the total or more (request P14): three pairs and
+/// four, of which a step is kept, and a path with a heavier end.
 pub fn table() -> Vec<(Question, Answer)> {
     let pairs = Site::new(6, &[(0, 1), (2, 3), (4, 5)]);
+    let four_pairs = Site::new(8, &[(0, 1), (2, 3), (4, 5), (6, 7)]);
     let rows: [&[usize]; 6] = [&[1, 2, 5, 6, 7], &[3, 4, 5, 7], &[3, 4, 5, 7], &[5, 6], &[6, 7], &[7]];
     let links: Vec<_> = rows.iter().enumerate().flat_map(|(v, row)| row.iter().map(move |&u| (v, u))).collect();
     let eight = Site::new(8, &links);
@@ -40,7 +42,7 @@ pub fn table() -> Vec<(Question, Answer)> {
         (asked(star(4), 2, [12, 1, 499, 2]), Err(6)),
         (asked(star(4), 2, [12, 1, 500, 2]), Ok((&[0, 0, 0, 1], &[(0, 2)]))),
         (asked(pairs.clone(), 4, [12, 1, 333, 2]), Err(6)),
-        (asked(pairs, 4, [12, 1, 334, 2]), Err(7)),
+        (asked(pairs.clone(), 4, [12, 1, 334, 2]), Err(7)),
         (asked(Site::new(4, &[]), 2, [12, 1, 30, 2]), Ok((&[0, 1, 0, 1], &[(4, 2), (0, 0), (3, 0)]))),
         (
             asked(eight, 3, [1, 2, 500, 3]),
@@ -78,6 +80,9 @@ pub fn table() -> Vec<(Question, Answer)> {
         (swapping(&turned, 2, 2, [13, 4]), Err(17)),
         (swapping(&turned, 2, 2, [8, 0]), Err(17)),
         (swapping(&turned, 2, 2, [8, 9]), Err(17)),
+        (asked(pairs, 2, [12, 1, 30, 2]), Err(8)),
+        (asked(four_pairs, 3, [12, 1, 125, 2]), Err(8)),
+        (asked(path(3), 2, [12, 64, 30, 2]).weighed(vec![1, 1, 2]), Err(8)),
     ]
 }
 

@@ -35,15 +35,14 @@ impl Guarded {
     }
 }
 
-/// One call of both, with `owners_more` and `work_more` numbers lent beyond what is needed (or fewer): the Rust's division, if
-/// there is one.
-fn compare_one(
+/// One call of both, with `owners_more` and `work_more` numbers lent beyond what is needed (or fewer): the Rust's answer.
+pub(crate) fn answered(
     check: &mut Check,
     random: &mut Random,
     question: &Question,
     owners_more: i64,
     work_more: i64,
-) -> Option<Division> {
+) -> Result<Division, u32> {
     let &Question { ref site, ref workloads, ranks, options } = question;
     let (n, m) = (vertex_count(&site.offsets), site.neighbors.len());
     // what is out of the limits is lent little: it is refused before
@@ -74,7 +73,18 @@ fn compare_one(
     };
     let sound = || lists_cause(&site.offsets, &site.neighbors) == 0;
     check.same(expected.0, ours, expected, || if sound() { question.text() } else { format!("{question:?}") });
-    rust.ok()
+    rust
+}
+
+/// The same: the Rust's division, if there is one.
+fn compare_one(
+    check: &mut Check,
+    random: &mut Random,
+    question: &Question,
+    owners_more: i64,
+    work_more: i64,
+) -> Option<Division> {
+    answered(check, random, question, owners_more, work_more).ok()
 }
 
 /// The same, with the moves and swaps counted as steps.
@@ -250,7 +260,7 @@ fn emptied(check: &mut Check, random: &mut Random, count: u64) {
 }
 
 /// A random site, large now and then, with the default list length and pass factor.
-fn some_site(random: &mut Random, i: u64) -> Question {
+pub(crate) fn some_site(random: &mut Random, i: u64) -> Question {
     let size = if i % 200 == 0 {
         1500
     } else if i % 20 == 0 {

@@ -2,8 +2,9 @@
 //!
 //!     compare [--long] [--seed NUMBER] [--count NUMBER]
 //!
-//! The count is how many random inputs a check draws (20000 if not given, 1000000 with --long). With --long all graphs of five
-//! vertices are divided too, and the largest forced runs. The exit status is 1 where an answer differs.
+//! The count is how many random inputs a check draws (20000 if not given, 1000000 with --long). With --long the graphs of five
+//! vertices are divided in every check of all small ones, the largest forced runs are made, and request P14's least imbalance is
+//! tried for every number of vertices and ranks. The exit status is 1 where an answer differs.
 mod bridge_stages;
 mod byhand;
 mod division;
@@ -12,6 +13,7 @@ mod link_file;
 mod links;
 mod report;
 mod stages;
+mod stuck;
 
 use compare::bridge;
 use report::Report;
@@ -40,5 +42,6 @@ fn main() {
     link_file::compare(&mut report, seed, count);
     stages::compare(&mut report, seed, count);
     division::compare(&mut report, seed, count, long);
+    stuck::compare(&mut report, seed, count, long);
     std::process::exit(if report.end() { 0 } else { 1 });
 }

@@ -16,6 +16,7 @@ pub mod listing;
 pub mod random;
 pub mod sites;
 mod stand_ins;
+pub mod stuck;
 pub mod trace;
 
 pub use csr32::Csr32Matrix;
