@@ -10,7 +10,7 @@ use lib.ListN.{length, replicate}
 use lib.Dec.{ltb, eqb}
 use borrow.Author.Tests.{eqb-true, le-ltb}
 use Rattle.links.specs.Lists.{unassigned, any, sum}
-use Rattle.links.specs.Loads.{share, loadCap, Balance, balance}
+use Rattle.links.specs.Loads.{share, loadCap, minimumLoad, Balance, balance}
 use Rattle.links.specs.Graph.{vertexCount, neighborsCause, neighborsOf, rowsOf, badOffsets, goodRow, badLists}
 use Rattle.links.specs.Workloads.{badWorkload, badWorkloads}
 use Rattle.links.specs.Options.{badOptions, badListLength, badSwaps, stopSize}
@@ -147,9 +147,12 @@ module _ (c : Call) (p : Plain c) where
   least-is : Tight c ↔ (t < leastOf c)
   least-is = least-exact n (c .ranks) t (g .some-ranks) (omega (arith, g .some-ranks, g .enough-vertices)) (g .few-vertices) (g .tolerance)
 
-  some-floor : 2 * c .ranks ≤ n → 1 ≤ balanceOf c .floor
+  floor-is : balanceOf c .floor ≡ minimumLoad n (c .ranks) t
   unfolding balance
-  some-floor h = rw summed (floor-some n (c .ranks) t (g .some-ranks) (g .few-vertices) (g .tolerance) h)
+  floor-is = ap (λ (total : ℕ). minimumLoad total (c .ranks) t) summed
+
+  some-floor : 2 * c .ranks ≤ n → 1 ≤ balanceOf c .floor
+  some-floor h = rw floor-is (floor-some n (c .ranks) t (g .some-ranks) (g .few-vertices) (g .tolerance) h)
 
 -- ---- what a planner is told
 
@@ -169,11 +172,15 @@ stuck-below c p = Iff·trans (exactly c p) (least-is c p)
 pub least-enough : (c : Call) → Plain c → leastOf c ≤ c .options .«imbalance_per_mille» → Accepted c ⊎ (division c .outcome ≡ refused 9)
 least-enough c p h = loose-ends c p (λ tight. omega (arith, least-is c p .0 tight))
 
--- with two vertices to a rank 9 does not
+-- where the floor is 1 at least 9 does not
 pub least-accepted
+    : (c : Call) → Plain c → leastOf c ≤ c .options .«imbalance_per_mille» → 1 ≤ balanceOf c .floor → Accepted c
+least-accepted c p h floored = ⊎-elim (λ a. a) (λ e. absurd (omega (arith, nine-needs-no-floor c e))) (least-enough c p h)
+
+-- and it is, with two vertices to a rank
+pub two-accepted
     : (c : Call) → Plain c → leastOf c ≤ c .options .«imbalance_per_mille» → 2 * c .ranks ≤ vertexCount (c .offsets) → Accepted c
-least-accepted c p h two =
-    ⊎-elim (λ a. a) (λ e. absurd (omega (arith, nine-needs-no-floor c e, some-floor c p two))) (least-enough c p h)
+two-accepted c p h two = least-accepted c p h (some-floor c p two)
 
 outcome-8 : (o : Outcome) → (outcomeNumber o ≡ 8) ↔ (o ≡ refused 8)
 outcome-8 (refused number) = (λ e. ap refused e, λ e. cc)
@@ -199,4 +206,4 @@ five-plain = (record { ones = refl; unkept = refl; passed = refl }, record { one
 
 pub five-sides : (division (five 199) .outcome ≡ refused 8) × Accepted (five 200)
 unfolding loadCap share leastImbalance ceiling
-five-sides = (stuck-exactly (five 199) (five-plain .0) .1 (omega arith), least-accepted (five 200) (five-plain .1) (omega arith) (omega arith))
+five-sides = (stuck-exactly (five 199) (five-plain .0) .1 (omega arith), two-accepted (five 200) (five-plain .1) (omega arith) (omega arith))
