@@ -35,9 +35,9 @@ extern "C" {
  *     ranks * hipstern_load_cap(turbines, ranks, imbalance_per_mille) < turbines
  *
  * that is, when the imbalance is below 1000 * (ranks * ceil(turbines / ranks) - turbines) / turbines, rounded up. Mend: give
- * that imbalance or more; where it would be above 500, ask for fewer crews. The division is then accepted, but for one case:
- * with fewer than two turbines for each crew 9 may follow, and only fewer crews mend it. Where turbines were grouped by a
- * coarsening step, or workloads differ, the cap tells neither that 8 comes nor that it does not.
+ * that imbalance or more; where it would be above 500, ask for fewer crews. Then the division is accepted, or 9 follows: only
+ * where hipstern_minimum_load is 0, so never with two turbines or more for each crew. Where a coarsening step grouped turbines,
+ * or workloads differ, the cap tells neither that 8 comes nor that it does not.
  */
 uint64_t hipstern_load_cap(uint64_t total, uint32_t ranks, uint32_t imbalance_per_mille);
 
