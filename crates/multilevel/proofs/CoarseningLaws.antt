@@ -221,8 +221,8 @@ module _ (rows : List (List ℕ)) (s : Sound rows) (ws : List ℕ) (small : leng
 -- ---- whether a step is kept, by numbers alone
 
 module _ (c : Call) (g : Tested c) where
-  abbrev siteSize : length (siteRows c) ≡ vertexCount (c .offsets)
-  siteSize = length-rows (c .offsets) (c .neighbors)
+  sized : length (siteRows c) ≡ vertexCount (c .offsets)
+  sized = length-rows (c .offsets) (c .neighbors)
 
   -- every row is empty exactly when there is no entry
   unlinked : (length (c .neighbors) ≡ 0) ↔ ((v : ℕ) → v < length (siteRows c) → row (siteRows c) v ≡ [])
@@ -234,7 +234,7 @@ module _ (c : Call) (g : Tested c) where
 
       empty-rows : length (c .neighbors) ≡ 0 → (v : ℕ) → v < length (siteRows c) → row (siteRows c) v ≡ []
       empty-rows z v h =
-          let inside : v < vertexCount (c .offsets) = omega (arith, siteSize) in
+          let inside : v < vertexCount (c .offsets) = omega (arith, sized) in
           let fits = offsets-fit (c .offsets) (c .neighbors) (g .lists) (v + 1) (omega arith) in
           nothing (row (siteRows c) v) (omega (arith, length-row (c .offsets) (c .neighbors) (g .lists) v inside))
 
@@ -244,6 +244,7 @@ module _ (c : Call) (g : Tested c) where
           let none = total-zero 0 (length rows) (degree rows) (λ v h l. ap length (e v (omega arith))) in
           omega (arith, list-entries (c .offsets) (c .neighbors) (g .lists), total-degrees rows)
 
+  -- no more vertices than coarsening stops at, or no link
   pub no-step : (keptSteps c ≡ []) ↔ NoStep c
   unfolding coarsenings
   no-step = go (c .options .«max_levels») (g .some-levels)
@@ -259,17 +260,17 @@ module _ (c : Call) (g : Tested c) where
 
       discarded : (ltb groups n ≡ false) ↔ ((v : ℕ) → v < n → row (siteRows c) v ≡ [])
       discarded =
-          step-discarded (siteRows c) (g .lists .sound) (c .workloads) (omega (arith, siteSize, g .few-vertices)) (g .workloads .sized ∙ sym siteSize)
+          step-discarded (siteRows c) (g .lists .sound) (c .workloads) (omega (arith, sized, g .few-vertices)) (g .workloads .sized ∙ sym sized)
 
       -- neither of the two, and so it shrinks
       shrinks : leb n stop ≡ false → ltb groups n ≡ true → ¬ NoStep c
       shrinks p q =
-          ⊎-elim (λ few. omega (arith, siteSize, leb-false n stop p)) (λ z. false≢true (sym (discarded .1 (unlinked .0 z)) ∙ q))
+          ⊎-elim (λ few. omega (arith, sized, leb-false n stop p)) (λ z. false≢true (sym (discarded .1 (unlinked .0 z)) ∙ q))
 
       go : (l : ℕ) → 1 ≤ l → (coarsenings l stop (siteRows c) (c .workloads) ≡ []) ↔ NoStep c
       go zero h = absurd (omega arith)
       go (suc l) h = split (leb n stop)
-          (λ p. rw p (λ e. inl (omega (arith, siteSize, leb-true n stop p)), λ s. refl))
+          (λ p. rw p (λ e. inl (omega (arith, sized, leb-true n stop p)), λ s. refl))
           (λ p. split (ltb groups n)
           (λ q. rw (p, q) (λ e. absurd (nil≢cons (sym e)), λ s. absurd (shrinks p q s)))
           (λ q. rw (p, q) (λ e. inr (unlinked .1 (discarded .0 q)), λ s. refl)))

@@ -142,7 +142,7 @@ none-empty k owners e r h =
     let d : owned owners r ≢ 0 = eqb-false (owned owners r) 0 z in
     omega arith
 
--- and its number is none of growth's
+-- a level's check gives none of growth's numbers
 pub refine-unchecked
     : (b : Balance) (passes : ℕ) (swapping : Swapping) (rows : List (List ℕ)) (ws group : List ℕ) (t : Trace) (number : ℕ)
     → elem number checkNumbers ≡ false
