@@ -11,7 +11,8 @@ use Rattle.links.specs.Lists.{at, elem}
 use Rattle.links.specs.Graph.{strictlyRising}
 use Rattle.links.specs.ListTest.{foundBetween, found}
 use Rattle.links.proofs.ListLaws.{split}
-use Rattle.links.proofs.RowLaws.{rises-by, elem-place, elem-nowhere}
+use Rattle.links.proofs.ApartLaws.{rises-by}
+use Rattle.links.proofs.RowLaws.{elem-place, elem-nowhere}
 
 module _ (row : List ℕ) (x : ℕ) where
   -- no place

@@ -1,6 +1,7 @@
 pub mod ListLaws
 pub mod PartLaws
 pub mod BestLaws
+pub mod ApartLaws
 pub mod SoundLaws
 pub mod CutLaws
 pub mod RowLaws

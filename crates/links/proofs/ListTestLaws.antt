@@ -16,6 +16,7 @@ use Rattle.links.specs.Graph.{row, vertexCount, neighborsOf, rowsOf, str
 use Rattle.links.specs.ListTest.{validRow, validRows, mirroredRow, mirroredRows, Rising}
 use Rattle.links.proofs.CauseLaws.{cause-holds, cause-fails}
 use Rattle.links.proofs.ListLaws.{split, and-l, all-of, all-in, elem-range, and-false}
+use Rattle.links.proofs.ApartLaws.{apart, strict-apart, never-apart}
 use Rattle.links.proofs.SoundLaws.{sound-lists}
 use Rattle.links.proofs.RowLaws.{length-rows, row-always, query-none}
 
@@ -42,19 +43,7 @@ at-from a (suc n) (suc i) h = at-from (suc a) n i (le-of-suc-le-suc h) ∙ omega
 pub at-range : (n i : ℕ) → i < n → at (range 0 n) i ≡ i
 at-range n i h = at-from 0 n i h ∙ zero-add i
 
--- ---- a list in which each number is at least f of each before it: strictly rising for suc, never falling for the number itself
-
-abbrev apart : (ℕ → ℕ) → List ℕ → Bool
-apart f [] = true
-apart f (x ∷ xs) = let r = apart f xs in cond (all (leb (f x)) xs) r false
-
-strict-apart : (xs : List ℕ) → strictlyRising xs ≡ apart suc xs
-strict-apart [] = refl
-strict-apart (x ∷ xs) = ap (λ (b : Bool). cond (all (ltb x) xs) b false) (strict-apart xs)
-
-never-apart : (xs : List ℕ) → neverFalling xs ≡ apart (λ x. x) xs
-never-apart [] = refl
-never-apart (x ∷ xs) = ap (λ (b : Bool). cond (all (leb x) xs) b false) (never-apart xs)
+-- ---- a list whose numbers are apart by f, place by place
 
 -- such a list, and from b up
 abbrev apartFrom : (ℕ → ℕ) → ℕ → List ℕ → Bool

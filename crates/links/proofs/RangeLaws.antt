@@ -6,19 +6,39 @@ use mathlib.Core.List.{List, [], _∷_, _++_, append-assoc}
 use native.Mathlib.Omega.{arith}
 use native.Mathlib.Numerals.{add-one}
 use lib.Dec.{ltb, eqb}
+use lib.ListN.{length}
 use borrow.Author.Tests.{lt-ltb, ltb-true, ne-eqb, eqb-true, eqb-false}
-use Rattle.links.specs.Lists.{All, filter, all, range, elem, concatMap}
+use Rattle.links.specs.Lists.{at, All, filter, all, range, elem, concatMap}
 use Rattle.links.specs.Graph.{strictlyRising}
-use Rattle.links.proofs.ListLaws.{split, all-of}
+use Rattle.links.proofs.ListLaws.{split, all-of, count, count-cons, count-is}
 
 pub filter-ext : (p q : ℕ → Bool) (i n : ℕ) → ((x : ℕ) → i ≤ x → x < i + n → p x ≡ q x) → filter p (range i n) ≡ filter q (range i n)
 filter-ext p q i zero e = refl
 filter-ext p q i (suc n) e = rw (e i (omega arith) (omega arith), filter-ext p q (suc i) n (λ x h k. e x (omega arith) (omega arith)))
 
+-- cut in two
+pub range-join : (i a b n m : ℕ) → n ≡ a + b → m ≡ i + a → range i n ≡ range i a ++ range m b
+range-join i zero b n m h k =
+    let e : n ≡ b = omega arith in
+    let d : m ≡ i = omega arith in
+    rw (e, d)
+range-join i (suc a) b n m h k =
+    let e : n ≡ suc (a + b) = omega arith in
+    rw e (ap (λ (l : List ℕ). i ∷ l) (range-join (suc i) a b (a + b) m refl (omega arith)))
+
 -- one more at the end
 pub range-snoc : (i n m : ℕ) → m ≡ i + n → range i (suc n) ≡ range i n ++ (m ∷ [])
-range-snoc i zero m e = let z : m ≡ i = omega arith in rw z
-range-snoc i (suc n) m e = ap (λ (l : List ℕ). i ∷ l) (range-snoc (suc i) n m (omega arith))
+range-snoc i n m e = range-join i n 1 (suc n) m (omega arith) e
+
+-- how many of a list pass, by its places
+pub count-places : (p : ℕ → Bool) (xs : List ℕ) → count p xs ≡ count (λ i. p (at xs i)) (range 0 (length xs))
+count-places p xs = go xs (at xs) 0 (λ j h. ap (at xs) (omega arith))
+  where
+    go : (ys : List ℕ) (f : ℕ → ℕ) (i : ℕ) → ((j : ℕ) → j < length ys → f (i + j) ≡ at ys j) → count p ys ≡ count (λ j. p (f j)) (range i (length ys))
+    go [] f i h = refl
+    go (y ∷ ys) f i h =
+        let e : f i ≡ y = ap f (omega arith) ∙ h 0 (omega arith) in
+        omega (arith, count-cons p y ys, count-is (λ j. p (f j)) i (range (suc i) (length ys)) (p y) (ap p e), go ys f (suc i) (λ j k. ap f (omega arith) ∙ h (suc j) (omega arith)))
 
 pub concat-append : {A B : Type 0} (f : A → List B) (xs ys : List A) → concatMap f (xs ++ ys) ≡ concatMap f xs ++ concatMap f ys
 concat-append f [] ys = refl

@@ -1,6 +1,6 @@
 -- Laws of rows: where the row of a vertex lies in the neighbor slice, and what its entries are. Assumes nothing.
 use mathlib.Core.Path.{_≡_, refl, sym, ap, _∙_}
-use mathlib.Core.Bool.{true, false, false≢true}
+use mathlib.Core.Bool.{true, false}
 use mathlib.Core.List.{List, [], _∷_, map}
 use Prim.Native.Nat.{ℕ, zero, suc, _+_, _-_, _≤_, _<_}
 use native.Mathlib.Nat.{not-suc-le-zero, le-of-suc-le-suc, zero-add}
@@ -8,11 +8,12 @@ use native.Mathlib.Omega.{arith}
 use borrow.Author.Tests.{le-leb, lt-leb, leb-true, leb-false, ltb-true, ltb-false, eq-eqb, ne-eqb}
 use lib.Dec.{eqb, leb, ltb}
 use lib.ListN.{length, getD, length-map, List·getD-eq-default}
-use Rattle.links.specs.Lists.{at, All, all, range, elem}
+use Rattle.links.specs.Lists.{at, All, range, elem}
 use Rattle.links.specs.Parts.{part}
 use Rattle.links.specs.Graph.{row, rowsOf, vertexCount, neighborsOf, neighborsCause, strictlyRising, SoundLists}
-use Rattle.links.proofs.ListLaws.{split, length-range, all-of}
+use Rattle.links.proofs.ListLaws.{split, length-range}
 use Rattle.links.proofs.PartLaws.{length-part, getD-part}
+use Rattle.links.proofs.ApartLaws.{rises-by}
 
 pub getD-map-range : {A : Type 0} (d : A) (f : ℕ → A) (i n k : ℕ) → k < n → getD (map f (range i n)) k d ≡ f (i + k)
 getD-map-range d f i zero k h = absurd (not-suc-le-zero h)
@@ -39,18 +40,7 @@ pub by-place : (P : ℕ → Type 0) (xs : List ℕ) → ((i : ℕ) → i < lengt
 by-place P [] h = tt
 by-place P (x ∷ xs) h = (h 0 (omega arith), by-place P xs (λ i k. h (suc i) (omega arith)))
 
--- a strictly rising list, by its places
-pub rises-by : (xs : List ℕ) → strictlyRising xs ≡ true → (i j : ℕ) → i < j → j < length xs → at xs i < at xs j
-rises-by [] e i j h k = absurd (not-suc-le-zero k)
-rises-by (x ∷ xs) e i zero h k = absurd (not-suc-le-zero h)
-rises-by (x ∷ xs) e zero (suc j) h k = split (all (ltb x) xs)
-    (λ p. ltb-true x (at xs j) (all-place (λ z. ltb x z ≡ true) xs j (all-of (λ z. ltb x z ≡ true) (ltb x) (λ z r. r) xs p) (le-of-suc-le-suc k)))
-    (λ p. absurd (false≢true (rw p at e)))
-rises-by (x ∷ xs) e (suc i) (suc j) h k = split (all (ltb x) xs)
-    (λ p. rises-by xs (rw p at e) i j (le-of-suc-le-suc h) (le-of-suc-le-suc k))
-    (λ p. absurd (false≢true (rw p at e)))
-
--- of numbers below n it has at most n
+-- of numbers below n a strictly rising list has at most n
 pub rises-few : (xs : List ℕ) → strictlyRising xs ≡ true → (n : ℕ) → ((i : ℕ) → i < length xs → at xs i < n) → length xs ≤ n
 rises-few xs e n f = split (ltb n (length xs))
     (λ p. let l = ltb-true n (length xs) p in absurd (omega (arith, from n l, f n l)))

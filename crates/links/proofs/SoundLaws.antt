@@ -5,11 +5,12 @@ use mathlib.Core.Bool.{Bool, true, false, not, _&&_, _||_, false≢true}
 use mathlib.Core.List.{List, [], _∷_}
 use native.Mathlib.Omega.{arith}
 use lib.ListN.{length}
-use lib.Dec.{leb, ltb, eqb}
-use borrow.Author.Tests.{leb-true, ne-eqb, eqb-true, eqb-false, ltb-true, not-false}
+use lib.Dec.{ltb, eqb}
+use borrow.Author.Tests.{ne-eqb, eqb-true, eqb-false, ltb-true, not-false}
 use Rattle.links.specs.Lists.{at, All, all, elem}
 use Rattle.links.specs.Graph.{row, vertices, vertexCount, strictlyRising, neverFalling, rowsOf, badOffsets, goodRow, badLists, Sound, SoundLists}
 use Rattle.links.proofs.ListLaws.{split, and-l, and-r, or-l, or-r, not-of, iff-eq, tally, count, all-of, all-to, all-in, elem-range}
+use Rattle.links.proofs.ApartLaws.{never-falls-by}
 
 -- a number below all of a list is not in it
 none-low : (u : ℕ) (l : List ℕ) → All (λ w. ltb u w ≡ true) l → count (eqb u) l ≡ 0
@@ -65,20 +66,6 @@ sound-of rows e =
       symmetric = λ u v h k. iff-eq (elem v (row rows u)) (elem u (row rows v)) (back u v h) (back v u k);
     }
 
--- a list that never falls, by its places
-pub falls-never : (xs : List ℕ) → neverFalling xs ≡ true → (i : ℕ) → i + 1 < length xs → at xs i ≤ at xs (i + 1)
-falls-never [] e i h = absurd (omega arith)
-falls-never (x ∷ []) e i h = absurd (omega arith)
-falls-never (x ∷ y ∷ r) e zero h = split (all (leb x) (y ∷ r))
-    (λ p. leb-true x y ((all-of (λ z. leb x z ≡ true) (leb x) (λ z q. q) (y ∷ r) p) .0))
-    (λ p. absurd (false≢true (rw p at e)))
-falls-never (x ∷ y ∷ r) e (suc i) h = split (all (leb x) (y ∷ r))
-    (λ p.
-    let q : at (y ∷ r) i ≤ at (y ∷ r) (i + 1) = falls-never (y ∷ r) (rw p at e) i (omega arith) in
-    let s : suc i + 1 ≡ suc (i + 1) = omega arith in
-    rw s q)
-    (λ p. absurd (false≢true (rw p at e)))
-
 -- what the list test's 0 is worth
 pub sound-lists : (offsets neighbors : List ℕ) → badLists offsets neighbors ≡ false → SoundLists offsets neighbors
 unfolding badLists badOffsets
@@ -96,7 +83,7 @@ sound-lists offsets neighbors e =
     record {
       some = some;
       first = eqb-true (at offsets 0) 0 (not-false _ (or-r o1 o2 bad2));
-      rises = λ v h. falls-never offsets (not-false _ (or-r (o1 || o2) o3 bad3)) v (omega arith);
+      rises = λ v h. never-falls-by offsets (not-false _ (or-r (o1 || o2) o3 bad3)) v (v + 1) (omega arith) (omega arith);
       last = eqb-true (at offsets (vertexCount offsets)) (length neighbors) (not-false _ (or-r (o1 || o2 || o3) o4 bad));
       sound = sound-of rows (not-false _ (or-r (o1 || o2 || o3 || o4) (not good) e));
     }

@@ -10,6 +10,7 @@ pub use lists::holds;
 pub use lists::lists_cause;
 pub use lists::neighbors_cause;
 pub use lists::neighbors_of;
+pub use lists::never_falls;
 pub use lists::vertex_count;
 pub use loads::between;
 pub use loads::load_cap;

@@ -72,13 +72,15 @@ pub fn holds(row: &[u32], x: usize) -> bool
     false
 }
 
-fn never_falls(offsets: &[u32]) -> bool
-    ensures { λ r. ⌜ r ≡ neverFalling (now (offsets .entry)) ⌝ }
+// Whether no number is below one before it.
+// Rules out: a repeat taken for a fall; the last number not looked at.
+pub fn never_falls(xs: &[u32]) -> bool
+    ensures { λ r. ⌜ r ≡ neverFalling (now (xs .entry)) ⌝ }
 {
     let mut least: u32 = 0;
     let mut i = 0;
-    while i < offsets.len() {
-        let x = offsets[i];
+    while i < xs.len() {
+        let x = xs[i];
         if x < least {
             return false;
         }
