@@ -15,7 +15,8 @@ use Rattle.links.specs.Lists.{at, All, filter, foldl, insert, sortBy, range, co
 use Rattle.links.specs.Parts.{part}
 use Rattle.links.specs.Loads.{Balance}
 use Rattle.links.specs.Graph.{row, vertices, linksIn, linksTo}
-use Rattle.links.proofs.ListLaws.{split, length-insert, count-length, all-take, all-sort, all-map, all-filter, all-to, all-concat, all-range, filter-append}
+use Rattle.links.proofs.ListLaws.{split, foldl-snoc, length-insert, count-length, all-take, all-sort, all-map, all-filter, all-to, all-concat, all-range, filter-append}
+use Rattle.links.proofs.RangeLaws.{range-snoc}
 use Rattle.stages.specs.Moves.{Step, swap, after, linked, gain}
 use Rattle.stages.specs.Swaps.{Candidate, Proposal, ahead, sooner, propose, candidates, proposals, applies, swapPass}
 use Rattle.stages.specs.Keys.{candidate, Fair, keyOf, gainOf, vertexOf, higher}
@@ -59,12 +60,6 @@ module _ {A : Type 0} (before : A → A → Bool) where
 
 -- ---- candidates, vertex by vertex
 
-pub range-more : (i n : ℕ) → range i (suc n) ≡ range i n ++ (i + n) ∷ []
-range-more i zero = let e : i ≡ i + 0 = omega arith in ap (λ (z : ℕ). z ∷ []) e
-range-more i (suc n) =
-    let e : suc i + n ≡ i + suc n = omega arith in
-    ap (λ (t : List ℕ). i ∷ t) (range-more (suc i) n ∙ ap (λ (z : ℕ). range (suc i) n ++ z ∷ []) e)
-
 module _ (n : ℕ) (rows : List (List ℕ)) (owners : List ℕ) (a b : ℕ) where
   abbrev passes : ℕ → Bool
   passes v = eqb (at owners v) a && ltb 0 (linksTo rows owners v b)
@@ -89,9 +84,8 @@ module _ (n : ℕ) (rows : List (List ℕ)) (owners : List ℕ) (a b : ℕ) wher
   pub listed-more : (v : ℕ) → listedTo (v + 1) ≡ offerVertex n rows owners a b (listedTo v) v
   unfolding listedTo
   listed-more v =
-      rw (add-one v, range-more 0 v)
-      (foldl-append (offerVertex n rows owners a b) (range 0 v) ((0 + v) ∷ []) []
-      ∙ ap (offerVertex n rows owners a b (foldl (offerVertex n rows owners a b) [] (range 0 v))) (omega arith))
+      let e : range 0 (v + 1) ≡ range 0 v ++ (v ∷ []) = rw add-one (range-snoc 0 v v (omega arith)) in
+      foldl-snoc (offerVertex n rows owners a b) [] (range 0 v) v e
 
   -- a vertex that is not a's, or has no neighbor in b, is not listed
   pub offer-other : (s : List ℕ) (v : ℕ) → eqb (at owners v) a ≡ false → offerVertex n rows owners a b s v ≡ s

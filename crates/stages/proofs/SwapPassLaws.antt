@@ -4,12 +4,11 @@ use mathlib.Core.Path.{_≡_, refl, sym, ap, _∙_}
 use mathlib.Core.List.{List, [], _∷_, _++_, map, append-nil}
 use native.Mathlib.Omega.{arith}
 use native.Mathlib.Numerals.{add-one}
-use native.Mathlib.Nat.{zero-add}
 use lib.ListN.{length, take}
 use Rattle.links.specs.Lists.{at, All, foldl, range, concatMap}
 use Rattle.links.specs.Parts.{part, Kept}
 use Rattle.links.proofs.PartLaws.{getD-part, kept-refl, kept-trans, kept-wide}
-use Rattle.links.proofs.RangeLaws.{concat-append}
+use Rattle.links.proofs.RangeLaws.{range-snoc, concat-append}
 use Rattle.stages.specs.Level.{offsetsAt, neighborsAt, rowsAt, weightsAt, ownersAt, Ready, balanceIn}
 use Rattle.stages.specs.Moves.{Step, after}
 use Rattle.stages.specs.Swaps.{Proposal, candidates, proposals, allProposals, refineFinePairSwaps}
@@ -23,7 +22,7 @@ use Rattle.stages.proofs.StepLaws.{swaps-few}
 use Rattle.stages.proofs.MovesLaws.{Toward, toward-start, passesLeft, repeat-turn, repeat-quiet, repeat-end}
 use Rattle.stages.proofs.LevelLaws.{length-neighbors, length-owners, all-vertices, rows-kept, weights-kept, owners-kept, beneath}
 use Rattle.stages.proofs.SlotLaws.{slots-empty}
-use Rattle.stages.proofs.SwapListLaws.{range-more, proposals-are, proposals-none, proposals-none-back, candidates-within, proposals-named}
+use Rattle.stages.proofs.SwapListLaws.{proposals-are, proposals-none, proposals-none-back, candidates-within, proposals-named}
 use Rattle.stages.proofs.SwapsSliceLaws.{rows-few, rows-short, roomed}
 use Rattle.stages.proofs.KeyLaws.{filled-none}
 use Rattle.stages.proofs.SwapStepLaws.{taken-none, taken-then}
@@ -115,12 +114,10 @@ module _ {w : List ℕ} {s : SwapRoom} (g : Given w s) where
     pair-turn {w₂} {more} owners a b e h u =
         let f = proposals (s .«list_length») (rowsAt w (s .level)) owners a in
         let n : b + 1 - suc a ≡ suc (b - suc a) = omega arith in
-        let m : suc a + (b - suc a) ≡ b = omega arith in
         let split-off : rankProposals (s .«list_length») (rowsAt w (s .level)) owners a (b + 1) ≡ ps ++ f b =
         ap (λ (z : ℕ). concatMap f (range (suc a) z)) n
-        ∙ ap (concatMap f) (range-more (suc a) (b - suc a))
-        ∙ concat-append f (range (suc a) (b - suc a)) ((suc a + (b - suc a)) ∷ [])
-        ∙ ap (λ (z : ℕ). rankProposals (s .«list_length») (rowsAt w (s .level)) owners a b ++ (f z ++ [])) m
+        ∙ ap (concatMap f) (range-snoc (suc a) (b - suc a) b (omega arith))
+        ∙ concat-append f (range (suc a) (b - suc a)) (b ∷ [])
         ∙ rw (append-nil (f b), e) in
         rw split-off (taken-then g t (rw same-rows at u))
 
@@ -134,9 +131,8 @@ module _ {w : List ℕ} {s : SwapRoom} (g : Given w s) where
         let f : ℕ → List Proposal = λ a. rankProposals (s .«list_length») (rowsAt w (s .level)) owners a k in
         let split-off : ranksProposals (s .«list_length») (rowsAt w (s .level)) owners k (a + 1) ≡ ps ++ f a =
         ap (λ (z : ℕ). concatMap f (range 0 z)) (add-one a)
-        ∙ ap (concatMap f) (range-more 0 a)
-        ∙ concat-append f (range 0 a) ((0 + a) ∷ [])
-        ∙ ap (λ (z : ℕ). ranksProposals (s .«list_length») (rowsAt w (s .level)) owners k a ++ (f z ++ [])) (zero-add a)
+        ∙ ap (concatMap f) (range-snoc 0 a a (omega arith))
+        ∙ concat-append f (range 0 a) (a ∷ [])
         ∙ rw (append-nil (f a), e) in
         rw split-off (taken-then g t (rw same-rows at u))
 
