@@ -1,0 +1,3 @@
+pub mod SweepLaws
+pub mod CraneLaws
+pub mod WeekLaws

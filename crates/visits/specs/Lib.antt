@@ -1,0 +1,3 @@
+pub mod Crane
+pub mod CraneCode
+pub mod Weeks
