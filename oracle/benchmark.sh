@@ -1,5 +1,6 @@
 #!/usr/bin/env bash
-# Prints how many times as fast as the oracle in force a division is, from one run: the table of docs/BENCHMARK.md. Words are passed on:
+# Prints how many times as fast as the oracle in force a division is, and as a plain count in Rust a crane week is, from one run: the tables of
+# docs/BENCHMARK.md, through the archives of crates bridge and bridge_season; that of bridge_stages is linked too. Words are passed on:
 # --times NUMBER, or names of rows. The Rust's sources are looked for as sources.sh says.
 set -eu
 cd "$(dirname "$0")/.."
@@ -7,5 +8,6 @@ cd "$(dirname "$0")/.."
 
 rt staticlib bridge >&2
 rt staticlib bridge_stages >&2
+rt staticlib bridge_season >&2
 cargo build --quiet --release --offline --locked --manifest-path oracle/Cargo.toml
 exec "$CARGO_TARGET_DIR/release/benchmark" "$@"

@@ -130,7 +130,7 @@ fn from_owners(check: &mut Check, ranks: u32, owners: &[u32]) {
 }
 
 /// Each list of up to `length` numbers of `from`.
-fn lists_of(length: usize, from: &[u32], mut each: impl FnMut(&[u32])) {
+pub(crate) fn lists_of(length: usize, from: &[u32], mut each: impl FnMut(&[u32])) {
     let mut list = Vec::new();
     fn extend(list: &mut Vec<u32>, left: usize, from: &[u32], each: &mut impl FnMut(&[u32])) {
         each(list);

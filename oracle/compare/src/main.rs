@@ -1,4 +1,4 @@
-//! Compares Hipstern, through the archives of crates bridge and bridge_stages, with the Rust (crate reference).
+//! Compares Hipstern, through the archives of crates bridge, bridge_stages and bridge_season, with the Rust (crate reference).
 //!
 //!     compare [--long] [--seed NUMBER] [--count NUMBER]
 //!
@@ -7,6 +7,7 @@
 //! tried for every number of vertices and ranks. The exit status is 1 where an answer differs.
 mod bridge_stages;
 mod byhand;
+mod crane;
 mod division;
 mod levels;
 mod link_file;
@@ -15,7 +16,7 @@ mod report;
 mod stages;
 mod stuck;
 
-use compare::bridge;
+use compare::{bridge, bridge_season};
 use report::Report;
 
 fn usage() -> ! {
@@ -39,6 +40,7 @@ fn main() {
     let mut report = Report::default();
     byhand::check(&mut report, seed, count);
     links::compare(&mut report, seed, count);
+    crane::compare(&mut report, seed, count);
     link_file::compare(&mut report, seed, count);
     stages::compare(&mut report, seed, count);
     division::compare(&mut report, seed, count, long);

@@ -10,6 +10,7 @@ extern crate self as hybit_matrix;
 extern crate self as rayon;
 
 pub mod answers;
+pub mod crane;
 pub mod forced;
 pub mod link_file;
 pub mod listing;

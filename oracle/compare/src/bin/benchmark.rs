@@ -1,20 +1,27 @@
-//! Hipstern's division beside that of the oracle in force, in one process and one run: how many times as fast it is.
+//! Hipstern's division beside that of the oracle in force, in one process and one run: how many times as fast it is. A second table
+//! has crane weeks, which the Rust has none of, beside a plain count in Rust.
 //!
 //!     benchmark [--times NUMBER] [WORD..]
 //!
 //! Each row is a site, a number of ranks and options; the workloads are 1, and the swaps' lists of 8, unless its name says others.
 //! Both divide it in turn, NUMBER times (5 if not given; once where the Rust takes more than two seconds), and the least time of
-//! each counts. Owners, moves and cut are compared too. With words, only rows whose name has one of them run. The Rust gets its
-//! matrix and its weights ready made and allocates as it goes; the library gets its lists and workloads, which it tests, and
-//! slices that were lent to it before and hold what the run before left. Memory is what a division takes beside the site: the lent
-//! owners and work numbers, and the most that the Rust has allocated at one time, told by one more run that is not timed.
-use compare::bridge;
+//! each counts. Owners, moves and cut are compared too. With words, only rows whose name has one of them run, and a table without
+//! rows is left out. The Rust gets its matrix and its weights ready made and allocates as it goes; the library gets its lists and
+//! workloads, which it tests, and slices that were lent to it before and hold what the run before left. Memory is what a division
+//! takes beside the site: the lent owners and work numbers, and the most that the Rust has allocated at one time, told by one more
+//! run that is not timed.
+//!
+//! A row of the second table is a list of visit days and a block of w days. The plain count (reference::crane) goes through the
+//! whole list for each visit, and tests nothing; the library, which tests the list, runs 200 times for each time of it.
+use compare::{bridge, bridge_season};
 use reference::answers::{Options, lent_needs};
+use reference::crane::{self, LAST_DAY, MAX_VISITS};
 use reference::in_force::{self, abtm_multilevel_partition};
 use reference::random::Random;
 use reference::sites::{self, Question, Site};
 use reference::{Csr32Matrix, forced};
 use std::alloc::{GlobalAlloc, Layout, System};
+use std::hint::black_box;
 use std::sync::atomic::{AtomicBool, AtomicUsize, Ordering::Relaxed};
 use std::time::{Duration, Instant};
 
@@ -164,29 +171,22 @@ fn rows() -> Vec<Row> {
     rows
 }
 
-fn main() {
-    let (mut times, mut only) = (5u32, Vec::new());
-    let mut words = std::env::args().skip(1);
-    while let Some(word) = words.next() {
-        match word.as_str() {
-            "--times" => times = words.next().and_then(|w| w.parse().ok()).expect("--times NUMBER"),
-            _ => only.push(word),
-        }
-    }
+fn ms(time: Duration) -> f64 {
+    time.as_secs_f64() * 1e3
+}
+
+/// The table of divisions, and the line below it.
+fn divisions(rows: &[Row], times: u32) {
     println!("| site | n | m | k | the Rust, ms | the library, ms | times as fast | the Rust, MB | the library, MB |");
     println!("|---|---|---|---|---|---|---|---|---|");
     let (mut logs, mut count, mut least) = (0.0, 0, f64::MAX);
-    for row in rows() {
-        if !only.is_empty() && !only.iter().any(|w| row.name.contains(w.as_str())) {
-            continue;
-        }
+    for row in rows {
         // a small site is divided often enough to be timed
         let Question { site, ranks, .. } = &row.asked;
         let repeated = if site.vertices() < 1000 { 200 * times } else { times };
-        let Taken { ours, rust, lent, allocated } = measure(&row, repeated);
+        let Taken { ours, rust, lent, allocated } = measure(row, repeated);
         let ratio = rust.as_secs_f64() / ours.as_secs_f64();
         let (n, m) = (site.vertices(), site.neighbors.len());
-        let ms = |d: Duration| d.as_secs_f64() * 1e3;
         let mb = |bytes: usize| bytes as f64 / 1e6;
         println!(
             "| {} | {n} | {m} | {ranks} | {:.3} | {:.3} | {ratio:.1} | {:.2} | {:.2} |",
@@ -204,4 +204,84 @@ fn main() {
         "\n{count} rows: {:.1} times as fast in the geometric mean, {least:.1} at least",
         (logs / f64::from(count)).exp()
     );
+}
+
+// ---- crane weeks
+
+struct Week {
+    name: &'static str,
+    days: Vec<u32>,
+    w: u32,
+}
+
+fn weeks() -> Vec<Week> {
+    let (n, last) = (MAX_VISITS, LAST_DAY as usize);
+    let mut random = Random::new(1);
+    let spread: Vec<u32> = (0..n).map(|i| (i * last / (n - 1)) as u32).collect();
+    let mut drawn: Vec<u32> = (0..n).map(|_| random.index(last + 1) as u32).collect();
+    drawn.sort_unstable();
+    let week = |name, days: &[u32], w| Week { name, days: days.to_vec(), w };
+    vec![
+        week("visits spread evenly", &spread, 7),
+        week("visits spread evenly", &spread, 366),
+        week("visits on drawn days", &drawn, 7),
+        week("visits all on one day", &vec![LAST_DAY / 2; n], 7),
+        week("visits spread evenly", &spread, 1),
+    ]
+}
+
+/// What `run` answers; its time counts if it is the least.
+fn timed<T>(least: &mut Duration, run: impl FnOnce() -> T) -> T {
+    let start = Instant::now();
+    let answer = black_box(run());
+    *least = start.elapsed().min(*least);
+    answer
+}
+
+/// The least times of the library and of the plain count. A difference ends the run.
+fn measure_week(week: &Week, times: u32) -> (Duration, Duration) {
+    let (mut ours, mut plain) = (Duration::MAX, Duration::MAX);
+    let asked = || (black_box(week.days.as_slice()), black_box(week.w));
+    for _ in 0..times {
+        let (days, w) = asked();
+        let counted = timed(&mut plain, || crane::plain(days, w));
+        for _ in 0..200 {
+            let (days, w) = asked();
+            let answer = timed(&mut ours, || bridge_season::crane_week(days, w));
+            assert_eq!(answer, (0, counted), "{}, w {w}", week.name);
+        }
+    }
+    (ours, plain)
+}
+
+/// The table of crane weeks, after an empty line.
+fn crane_weeks(weeks: &[Week], times: u32) {
+    println!("\n| visit days | n | w | the plain n × n count in Rust, ms | the library, ms | times as fast |");
+    println!("|---|---|---|---|---|---|");
+    for week in weeks {
+        let (ours, plain) = measure_week(week, times);
+        let ratio = plain.as_secs_f64() / ours.as_secs_f64();
+        let (name, n, w) = (week.name, week.days.len(), week.w);
+        println!("| {name} | {n} | {w} | {:.3} | {:.3} | {ratio:.1} |", ms(plain), ms(ours));
+    }
+}
+
+fn main() {
+    let (mut times, mut only) = (5u32, Vec::new());
+    let mut words = std::env::args().skip(1);
+    while let Some(word) = words.next() {
+        match word.as_str() {
+            "--times" => times = words.next().and_then(|w| w.parse().ok()).expect("--times NUMBER"),
+            _ => only.push(word),
+        }
+    }
+    let chosen = |name: &str| only.is_empty() || only.iter().any(|w| name.contains(w.as_str()));
+    let rows: Vec<Row> = rows().into_iter().filter(|row| chosen(&row.name)).collect();
+    let weeks: Vec<Week> = weeks().into_iter().filter(|week| chosen(week.name)).collect();
+    if !rows.is_empty() {
+        divisions(&rows, times);
+    }
+    if !weeks.is_empty() {
+        crane_weeks(&weeks, times);
+    }
 }
