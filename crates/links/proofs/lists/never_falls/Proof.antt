@@ -27,7 +27,7 @@ shared-slice-read-x c = search needs
 returns : tie.Need-returns Inv-loop μ-loop
 returns c =
     let l = c .before .before .before .loop in
-    sym (apart-fails (λ x. x) (l .least) (c .before .before .before .before .args .xs .now) (l .i) (omega arith) (c .if1 .taken)) ∙ l .inv .1
+    sym (apart-fails (λ x. x) (l .least) (c .before .before .before .before .args .xs .now) (l .i) (omega arith) (omega (arith, c .if1 .taken))) ∙ l .inv .1
 
 add-i : tie.Need-add-i Inv-loop μ-loop
 add-i c = search needs
@@ -38,7 +38,7 @@ loop-less c = omega arith
 loop-again : tie.Need-loop-again Inv-loop μ-loop
 loop-again c =
     let l = c .before .before .before .loop in
-    (omega arith, apart-next (λ x. x) (λ x. omega arith) (l .least) (c .before .before .before .before .args .xs .now) (l .i) (omega arith) (c .if1 .left) ∙ l .inv .1)
+    (omega arith, apart-next (λ x. x) (λ x. omega arith) (l .least) (c .before .before .before .before .args .xs .now) (l .i) (omega arith) (omega (arith, c .if1 .left)) ∙ l .inv .1)
 
 returns-2 : tie.Need-returns-2 Inv-loop μ-loop
 returns-2 c =
