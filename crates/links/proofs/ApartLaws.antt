@@ -39,6 +39,11 @@ module _ (f : ℕ → ℕ) where
   apart-by (x ∷ xs) e zero (suc j) h k = all-getD xs j 0 (omega arith) (λ y. f x ≤ y) (apart-first x xs e .0)
   apart-by (x ∷ xs) e (suc i) (suc j) h k = apart-by xs (apart-first x xs e .1) i j (omega arith) (omega arith)
 
+pub never-falls-first : (x : ℕ) (xs : List ℕ) → neverFalling (x ∷ xs) ≡ true → All (λ y. x ≤ y) xs × (neverFalling xs ≡ true)
+never-falls-first x xs e =
+    let f = apart-first (λ x. x) x xs (sym (never-apart (x ∷ xs)) ∙ e) in
+    (f .0, never-apart xs ∙ f .1)
+
 pub rises-by : (xs : List ℕ) → strictlyRising xs ≡ true → (i j : ℕ) → i < j → j < length xs → at xs i < at xs j
 rises-by xs e = apart-by suc xs (sym (strict-apart xs) ∙ e)
 

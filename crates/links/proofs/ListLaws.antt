@@ -218,6 +218,12 @@ module _ {A : Type 0} where
   count-ext p q e [] = refl
   count-ext p q e (x ∷ xs) = omega (arith, count-is p x xs (q x) (e x), count-cons q x xs, count-ext p q e xs)
 
+  pub count-le : (p q : A → Bool) (xs : List A) → All (λ x. p x ≡ true → q x ≡ true) xs → count p xs ≤ count q xs
+  count-le p q [] a = omega arith
+  count-le p q (x ∷ xs) a = split (p x)
+      (λ e. omega (arith, count-is p x xs true e, count-is q x xs true (a .0 e), count-le p q xs (a .1)))
+      (λ e. omega (arith, count-is p x xs false e, count-cons q x xs, count-le p q xs (a .1)))
+
   pub count-append : (p : A → Bool) (xs ys : List A) → count p (xs ++ ys) ≡ count p xs + count p ys
   count-append p [] ys = omega arith
   count-append p (x ∷ xs) ys = omega (arith, count-cons p x (xs ++ ys), count-cons p x xs, count-append p xs ys)

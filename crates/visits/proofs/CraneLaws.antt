@@ -1,18 +1,18 @@
--- Cause 21 and what it leaves, the loop over the visits, and the two answers. Assumes nothing.
+-- Cause 21 and what it leaves, the loop over the visits, the two answers, and that no block has more visits, wherever it begins. Assumes nothing.
 use Prim.Native.Nat.{ℕ, zero, suc, _+_, _-_, _*_, _≤_, _<_, max}
 use mathlib.Core.Path.{_≡_, refl, sym, ap, _∙_, subst}
 use mathlib.Core.Bool.{Bool, true, false, not, _||_, true≢false}
 use mathlib.Core.List.{List, [], _∷_, map, foldr}
 use native.Mathlib.Omega.{arith}
 use lib.ListN.{length}
-use lib.Dec.{ltb, eqb}
-use borrow.Author.Tests.{eq-eqb, le-ltb, ltb-true, ltb-false, eqb-true, not-false}
-use Rattle.links.specs.Lists.{at, filter, any, between}
+use lib.Dec.{leb, ltb, eqb}
+use borrow.Author.Tests.{eq-eqb, le-leb, leb-true, lt-ltb, le-ltb, ltb-true, ltb-false, eqb-true, not-false}
+use Rattle.links.specs.Lists.{at, All, filter, any, between}
 use Rattle.links.specs.Graph.{neverFalling}
-use Rattle.links.proofs.ListLaws.{split, or-l, or-r, or-false, to-any, none-any, between-least}
+use Rattle.links.proofs.ListLaws.{split, and-l, and-r, and-i, or-l, or-r, or-false, count, count-cons, count-is, count-le, all-to, all-getD, to-any, none-any, between-least}
 use Rattle.links.proofs.RowLaws.{by-place, elem-place}
-use Rattle.links.proofs.ApartLaws.{never-falls-by}
-use Rattle.visits.specs.Crane.{badVisits, visitsFrom, mostVisits, earliestDay, sweepStep, sweepStart, sweepAfter, Carried, craneWeek, CraneTold}
+use Rattle.links.proofs.ApartLaws.{never-falls-first, never-falls-by}
+use Rattle.visits.specs.Crane.{badVisits, inBlock, visitsFrom, mostVisits, earliestDay, sweepStep, sweepStart, sweepAfter, Carried, craneWeek, CraneTold}
 use Rattle.visits.specs.CraneCode.{Counted, Underway, Swept}
 use Rattle.visits.specs.declared.crane.Sweep.{Sweep}
 use Rattle.visits.specs.declared.crane.CraneWeek.the-variants.{Busiest, Refused}
@@ -96,22 +96,21 @@ module _ (w : ℕ) (days : List ℕ) (s : Sweep) (o : Onward w days s) (some : 1
 
 -- ---- the most visits, and the earliest day
 
+max-bounds : (f : ℕ → ℕ) (xs : List ℕ) → All (λ x. f x ≤ foldr max 0 (map f xs)) xs
+max-bounds f [] = tt
+max-bounds f (x ∷ xs) = (omega arith, all-to (λ y. f y ≤ foldr max 0 (map f xs)) (λ y. f y ≤ max (f x) (foldr max 0 (map f xs))) (λ y h. omega arith) xs (max-bounds f xs))
+
 max-is
     : (f : ℕ → ℕ) (xs : List ℕ) (m p : ℕ)
     → ((a : ℕ) → a < length xs → f (at xs a) ≤ m)
     → p < length xs
     → f (at xs p) ≡ m
     → foldr max 0 (map f xs) ≡ m
-max-is f xs m p h k e = omega (arith, most xs h, least xs p k, e)
+max-is f xs m p h k e = omega (arith, most xs h, all-getD xs p 0 k (λ x. f x ≤ foldr max 0 (map f xs)) (max-bounds f xs), e)
   where
     most : (xs : List ℕ) → ((a : ℕ) → a < length xs → f (at xs a) ≤ m) → foldr max 0 (map f xs) ≤ m
     most [] h = omega arith
     most (x ∷ xs) h = omega (arith, h 0 (omega arith), most xs (λ a k. h (suc a) (omega arith)))
-
-    least : (xs : List ℕ) (p : ℕ) → p < length xs → f (at xs p) ≤ foldr max 0 (map f xs)
-    least [] p k = absurd (omega arith)
-    least (x ∷ xs) zero k = omega arith
-    least (x ∷ xs) (suc p) k = omega (arith, least xs p (omega arith))
 
 -- the first that passes, where all that pass up to its place are the same
 first-is
@@ -199,3 +198,28 @@ told-busiest w days s e end =
       day = rw (e, first);
       carried = λ f. swept-carried w days s (good .some) end;
     }
+
+-- ---- any block
+
+-- what is in the block from d on is in that of its first visit
+block-later : (w d : ℕ) (xs : List ℕ) (x : ℕ) → inBlock w d x ≡ true → All (λ y. x ≤ y) xs → All (λ y. inBlock w d y ≡ true → inBlock w x y ≡ true) xs
+block-later w d xs x e a = all-to (λ y. x ≤ y) (λ y. inBlock w d y ≡ true → inBlock w x y ≡ true) (λ y h f.
+    and-i (leb x y) (ltb y (x + w)) (le-leb x y h) (lt-ltb y (x + w) (omega (arith, leb-true d x (and-l (leb d x) (ltb x (d + w)) e), ltb-true y (d + w) (and-r (leb d y) (ltb y (d + w)) f))))) xs a
+
+-- no w days have more visits than those that begin on a visit day, wherever they begin
+pub any-block : (w : ℕ) (days : List ℕ) → neverFalling days ≡ true → (d : ℕ) → visitsFrom w days d ≤ mostVisits w days
+unfolding visitsFrom mostVisits
+any-block w days rising d = go days rising (λ y. omega arith) (max-bounds (visitsFrom w days) days)
+  where
+    go
+        : (xs : List ℕ)
+        → neverFalling xs ≡ true
+        → ((y : ℕ) → count (inBlock w y) xs ≤ visitsFrom w days y)
+        → All (λ y. visitsFrom w days y ≤ mostVisits w days) xs
+        → count (inBlock w d) xs ≤ mostVisits w days
+    go [] r sub a = omega arith
+    go (x ∷ xs) r sub a =
+        let f = never-falls-first x xs r in
+        split (inBlock w d x)
+        (λ e. omega (arith, count-le (inBlock w d) (inBlock w x) (x ∷ xs) (block-later w d (x ∷ xs) x e (omega arith, f .0)), sub x, a .0))
+        (λ e. omega (arith, count-is (inBlock w d) x xs false e, go xs (f .1) (λ y. omega (arith, count-cons (inBlock w y) x xs, sub y)) (a .1)))

@@ -1,4 +1,4 @@
--- Request P12: crane weeks. A visit is a turbine's, the list has its day. Assumes nothing.
+-- Request P12: crane weeks. The list has the day of each visit. Assumes nothing.
 use Prim.Native.Nat.{ℕ, zero, suc, _+_, _-_, _*_, _≤_, max}
 use mathlib.Core.Path.{_≡_}
 use mathlib.Core.Bool.{Bool, false, not, _&&_, _||_, cond}
