@@ -5,7 +5,7 @@ ghost use mathlib.Core.Bool.{cond};
 ghost use Rattle.visits.specs.Crane.{badVisits, mostVisits, earliestDay};
 
 // 0, or the refusal; the most visits and their first day, or zeros, are written.
-// Rules out: what was lent left as it was on a refusal; the two numbers in each other's place.
+// Rules out: the two outputs unwritten on a refusal; the two numbers in each other's place.
 #[no_mangle]
 pub extern "C" fn bridge_crane_week(days: &[u32], w: u32, visits: &mut u64, day: &mut u32) -> u32
     ensures number { λ r. ⌜ r ≡ cond (badVisits w (now (days .entry))) 21 0 ⌝ }

@@ -66,7 +66,7 @@ passed w days e =
 
 -- ---- the loop over the visits
 
--- so many steps as the places add up to
+-- as many steps were made as the places add up to
 pub record Onward (w : ℕ) (days : List ℕ) (s : Sweep) : Type 0 where
   pub inside : s .to ≤ length days
   pub reached : s ≡ sweepAfter w days (s .from + s .to)

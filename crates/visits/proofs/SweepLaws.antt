@@ -74,7 +74,7 @@ pub step-sum : (w : ℕ) (days : List ℕ) (s : Sweep) → sweepStep w days s .f
 unfolding visitIn visitOut
 step-sum w days s = by-step w days s (λ t. t .from + t .to ≡ suc (s .from + s .to)) (λ out. omega arith) (λ in′. omega arith)
 
--- a step takes no place past one that was inside
+-- a step raises the second place by one at most
 pub step-to : (w : ℕ) (days : List ℕ) (s : Sweep) → sweepStep w days s .to ≤ s .to + 1
 unfolding visitIn visitOut
 step-to w days s = by-step w days s (λ t. t .to ≤ s .to + 1) (λ out. omega arith) (λ in′. omega arith)

@@ -56,14 +56,14 @@ unfoldable pub sweepAfter : ℕ → List ℕ → ℕ → Sweep
 sweepAfter w days zero = sweepStart
 sweepAfter w days (suc i) = sweepStep w days (sweepAfter w days i)
 
--- a step from s to t raises one of the two places by one, and the count by one up or down
+-- a step from s to t raises one of the two places by one, and the count goes up by one with a visit in, down by one with a visit out
 abbrev pub CameIn : Sweep → Sweep → Type 0
 CameIn s t = (t .from ≡ s .from) × (t .to ≡ s .to + 1) × (t .count ≡ s .count + 1)
 
 abbrev pub WentOut : Sweep → Sweep → Type 0
 WentOut s t = (t .from ≡ s .from + 1) × (t .to ≡ s .to) × (s .count ≡ t .count + 1)
 
--- the visits and the day are those that the count came to: in two steps for each visit at most, each one in or one out, all visits came in
+-- the visits and the day are what the count comes to: after at most two steps for each visit, each one in or one out, when all visits came in
 pub record Carried (w : ℕ) (days : List ℕ) (visits day : ℕ) : Type 0 where
   pub steps : ℕ
   pub few : steps ≤ 2 * length days
@@ -72,7 +72,8 @@ pub record Carried (w : ℕ) (days : List ℕ) (visits day : ℕ) : Type 0 where
   pub most : sweepAfter w days steps .best ≡ visits
   pub first : sweepAfter w days steps .day ≡ day
 
--- ---- the answer: its number, visits and day; "a refusal added later returns zeros with its number"
+-- ---- the answer: its number, visits and day; "a refusal added later returns zeros with its number and leaves everything lent as it was": the list is
+-- only read
 
 abbrev pub craneNumber : CraneWeek → ℕ
 craneNumber (crane.Busiest visits day) = 0
@@ -90,6 +91,7 @@ craneDay (crane.Refused number) = 0
 unfoldable pub craneWeek : ℕ → List ℕ → CraneWeek
 craneWeek w days = cond (badVisits w days) (crane.Refused 21) (crane.Busiest (mostVisits w days) (earliestDay w days))
 
+-- the promise: the answer is the defined one, and so are its number and values; of what is not refused, the count that is carried along comes to them
 pub record CraneTold (w : ℕ) (days : List ℕ) (r : CraneWeek) : Type 0 where
   pub answer : r ≡ craneWeek w days
   pub number : craneNumber r ≡ cond (badVisits w days) 21 0

@@ -8,7 +8,7 @@ use Rattle.visits.specs.declared.crane.CraneWeek.the-variants.{Busiest, 
 
 unfoldable pub weeks : List (ℕ × List ℕ × CraneWeek)
 weeks =
-    -- "an empty list gives 0 and day 0", with every width that is taken
+    -- "an empty list gives 0 and day 0", with the least width and with the greatest
     (1, [], Busiest 0 0)
     ∷ (366, [], Busiest 0 0)
     -- one visit, on the first day and on the last
@@ -30,7 +30,7 @@ weeks =
     -- several days out before one comes in
     ∷ (3, 0 ∷ 1 ∷ 2 ∷ 9 ∷ 10 ∷ 10 ∷ 11 ∷ [], Busiest 4 9)
     -- a block may end after the last day
-    ∷ (366, 3294 ∷ 3295 ∷ 3660 ∷ 3660 ∷ [], Busiest 3 3295)
+    ∷ (366, 3294 ∷ 3296 ∷ 3660 ∷ 3660 ∷ [], Busiest 3 3296)
     -- "w of 0 or above 366"
     ∷ (0, [], Refused 21)
     ∷ (0, 1 ∷ [], Refused 21)

@@ -1,4 +1,4 @@
--- The invariant: so many steps were made as the two places add up to. Assumes nothing.
+-- The invariant: as many steps were made as the two places add up to. Assumes nothing.
 use Prim.Native.Nat.{_+_, _-_, _*_}
 use lib.ListN.{length}
 use Rattle.visits.proofs.CraneLaws.{Onward, onward-start, onward-ready, onward-step, onward-less, onward-end}
