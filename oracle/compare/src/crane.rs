@@ -26,7 +26,7 @@ fn shown(days: &[u32], w: u32) -> String {
     format!("w {w}, {} days {:?}", days.len(), &days[..days.len().min(20)])
 }
 
-/// One list, which is lent out of the middle of a longer one: what stands beside it, its first and its last day, is no visit.
+/// One list, lent out of the middle of a longer one: beside it stand its first and its last day once more, which must not be counted.
 fn week(check: &mut Check, days: &[u32], w: u32) {
     let beside = |day: Option<&u32>| [day.copied().unwrap_or(0); 2];
     let longer = [&beside(days.first()), days, &beside(days.last())].concat();
@@ -49,7 +49,7 @@ fn by_hand(check: &mut Check) {
         (&two_weeks, 10, Ok((5, 3))),
         (&two_weeks, 4, Ok((3, 0))),
         (&two_weeks, 3, Ok((2, 3))),
-        (&[3_295, 3_660], 366, Ok((2, 3_295))),
+        (&[3_294, 3_296, 3_660, 3_660], 366, Ok((3, 3_296))),
         (&[3_661], 7, Err(21)),
         (&[1, 0], 7, Err(21)),
     ];
@@ -100,7 +100,7 @@ fn some_block(random: &mut Random) -> u32 {
 /// How many shapes a list may have.
 const SHAPES: usize = 8;
 
-/// n rising days, of one of the shapes, to be asked for blocks of w days.
+/// n rising days, of one of the shapes, to be asked for blocks of w days. A day past the last one begins again at 0.
 fn rising(random: &mut Random, n: usize, w: u32, shape: usize) -> Vec<u32> {
     let few: [u32; 6] = std::array::from_fn(|_| any_day(random));
     let first = few[0];

@@ -46,9 +46,8 @@ pub fn by_day(days: &[u32], w: u32) -> (u64, u32) {
 
 /// The visits and the day, or 21.
 pub fn crane_week(days: &[u32], w: u32) -> Result<(u64, u32), u32> {
-    match days.len() {
-        _ if refused(days, w) => Err(21),
-        0..=64 => Ok(plain(days, w)),
-        _ => Ok(by_day(days, w)),
+    if refused(days, w) {
+        return Err(21);
     }
+    Ok(if days.len() <= 64 { plain(days, w) } else { by_day(days, w) })
 }

@@ -95,6 +95,14 @@ struct Taken {
     allocated: usize,
 }
 
+/// What `run` answers; its time counts if it is the least.
+fn timed<T>(least: &mut Duration, run: impl FnOnce() -> T) -> T {
+    let start = Instant::now();
+    let answer = black_box(run());
+    *least = start.elapsed().min(*least);
+    answer
+}
+
 /// A difference ends the run.
 fn measure(row: &Row, times: u32) -> Taken {
     let Question { site, workloads, ranks, options } = &row.asked;
@@ -107,12 +115,9 @@ fn measure(row: &Row, times: u32) -> Taken {
     let (mut owners, mut work) = (vec![1u32; owners_need], vec![1u32; work_need]);
     let (mut ours, mut rust) = (Duration::MAX, Duration::MAX);
     for _ in 0..times {
-        let start = Instant::now();
-        let (number, stats) = bridge::divide(site, workloads, *ranks, *options, &mut owners, &mut work);
-        ours = ours.min(start.elapsed());
-        let start = Instant::now();
-        let answer = asked();
-        rust = rust.min(start.elapsed());
+        let lent = || bridge::divide(site, workloads, *ranks, *options, &mut owners, &mut work);
+        let (number, stats) = timed(&mut ours, lent);
+        let answer = timed(&mut rust, asked);
         match answer {
             Ok((assignment, s)) => {
                 assert_eq!(
@@ -228,14 +233,6 @@ fn weeks() -> Vec<Week> {
         week("visits all on one day", &vec![LAST_DAY / 2; n], 7),
         week("visits spread evenly", &spread, 1),
     ]
-}
-
-/// What `run` answers; its time counts if it is the least.
-fn timed<T>(least: &mut Duration, run: impl FnOnce() -> T) -> T {
-    let start = Instant::now();
-    let answer = black_box(run());
-    *least = start.elapsed().min(*least);
-    answer
 }
 
 /// The least times of the library and of the plain count. A difference ends the run.
