@@ -26,7 +26,8 @@ fn shown(days: &[u32], w: u32) -> String {
     format!("w {w}, {} days {:?}", days.len(), &days[..days.len().min(20)])
 }
 
-/// One list, lent out of the middle of a longer one: beside it stand its first and its last day once more, which must not be counted.
+/// One list, lent out of the middle of a longer one: beside it stand its first and its last day once more, which must not be
+/// counted.
 fn week(check: &mut Check, days: &[u32], w: u32) {
     let beside = |day: Option<&u32>| [day.copied().unwrap_or(0); 2];
     let longer = [&beside(days.first()), days, &beside(days.last())].concat();
