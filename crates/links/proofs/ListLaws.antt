@@ -537,6 +537,10 @@ module _ {A : Type 0} (xs : List A) (i : ℕ) (d : A) (h : i < length xs) where
   pub all-getD : (P : A → Type 0) → All P xs → P (getD xs i d)
   all-getD P a = all-at P xs (take i xs) (drop (suc i) xs) (getD xs i d) a (split-at xs i d h)
 
+pub sum-append : (xs ys : List ℕ) → sum (xs ++ ys) ≡ sum xs + sum ys
+sum-append [] ys = omega arith
+sum-append (x ∷ xs) ys = omega (arith, sum-append xs ys)
+
 -- numbers gone through from i on: whether one passes, and their sum
 module _ (xs : List ℕ) (i : ℕ) (h : i < length xs) where
   pub any-yes : (p : ℕ → Bool) → p (at xs i) ≡ true → any p (drop i xs) ≡ true
@@ -547,6 +551,9 @@ module _ (xs : List ℕ) (i : ℕ) (h : i < length xs) where
 
   pub sum-drop : sum (drop i xs) ≡ at xs i + sum (drop (i + 1) xs)
   sum-drop = rw (add-one, drop-cons xs i 0)
+
+  pub sum-take : sum (take (i + 1) xs) ≡ sum (take i xs) + at xs i
+  sum-take = rw (add-one, take-suc xs i 0 h) (sum-append (take i xs) (at xs i ∷ []) ∙ omega arith)
 
 pub elem-take : (x : ℕ) (xs : List ℕ) (i : ℕ) → i < length xs → elem x (take (i + 1) xs) ≡ (elem x (take i xs) || eqb x (getD xs i 0))
 elem-take x xs i h = rw (add-one, take-suc xs i 0) (elem-append x (take i xs) (getD xs i 0 ∷ []) ∙ split (eqb x (getD xs i 0)) (λ p. rw p) (λ p. rw p))

@@ -1,10 +1,10 @@
 -- Laws of the list test: a test that is made place by place is the definition's, and the rounds over the rows are together cause 4's test.
 -- Assumes nothing.
-use Prim.Native.Nat.{ℕ, zero, suc, _+_, _≤_, _<_}
+use Prim.Native.Nat.{ℕ, suc, _+_, _≤_, _<_}
 use mathlib.Core.Path.{_≡_, refl, sym, ap, _∙_}
 use mathlib.Core.Bool.{Bool, true, false, not, _&&_, _||_, cond, false≢true}
 use mathlib.Core.List.{List, [], _∷_}
-use native.Mathlib.Nat.{not-suc-le-zero, le-of-suc-le-suc, zero-add}
+use native.Mathlib.Nat.{zero-add}
 use native.Mathlib.Omega.{arith}
 use native.Mathlib.Numerals.{add-one}
 use lib.Dec.{leb, ltb, eqb}
@@ -16,6 +16,7 @@ use Rattle.links.specs.Graph.{row, vertexCount, neighborsOf, rowsOf, str
 use Rattle.links.specs.ListTest.{validRow, validRows, mirroredRow, mirroredRows, Rising}
 use Rattle.links.proofs.CauseLaws.{cause-holds, cause-fails}
 use Rattle.links.proofs.ListLaws.{split, and-l, all-of, all-in, elem-range, and-false}
+use Rattle.links.proofs.RangeLaws.{range-at}
 use Rattle.links.proofs.ApartLaws.{apart, strict-apart, never-apart}
 use Rattle.links.proofs.SoundLaws.{sound-lists}
 use Rattle.links.proofs.RowLaws.{length-rows, row-always, query-none}
@@ -35,13 +36,8 @@ pub all-end : (p : ℕ → Bool) (xs : List ℕ) (i : ℕ) → length xs ≤ i �
 all-end p xs i h = rw (drop-of-length-le xs h)
 
 -- the list of the numbers below n has i at place i
-at-from : (a n i : ℕ) → i < n → at (range a n) i ≡ a + i
-at-from a zero i h = absurd (not-suc-le-zero h)
-at-from a (suc n) zero h = omega arith
-at-from a (suc n) (suc i) h = at-from (suc a) n i (le-of-suc-le-suc h) ∙ omega arith
-
 pub at-range : (n i : ℕ) → i < n → at (range 0 n) i ≡ i
-at-range n i h = at-from 0 n i h ∙ zero-add i
+at-range n i h = range-at 0 n i h ∙ zero-add i
 
 -- ---- a list whose numbers are apart by f, place by place
 

@@ -1,26 +1,31 @@
 -- Laws of owner lists: one owner more counted, met or marked; what the marks are worth; what the ranks own together. Assumes nothing.
 use Prim.Native.Nat.{ℕ, _+_, _≤_, _<_}
-use mathlib.Core.Path.{_≡_, refl, _∙_}
-use mathlib.Core.Bool.{Bool, true, false, cond}
-use mathlib.Core.List.{List, []}
+use mathlib.Core.Path.{_≡_, refl, sym, ap, _∙_}
+use mathlib.Core.Bool.{Bool, true, false, _||_, cond}
+use mathlib.Core.List.{List, [], _∷_}
 use native.Mathlib.Omega.{arith}
-use lib.ListN.{length, take, drop, set, replicate, length-set, length-replicate, getD-replicate}
-use lib.Seq.{getD-set-same, getD-set-other}
+use native.Mathlib.Numerals.{add-one}
+use lib.ListN.{length, take, drop, set, replicate, length-set, length-take, length-replicate, getD-replicate, List·getD-eq-default}
+use lib.Seq.{take-suc, ext-getD, getD-set-same, getD-set-other}
 use lib.Dec.{leb, ltb, eqb}
-use borrow.Author.Tests.{ne-eqb, ltb-true, ltb-false, leb-false, eqb-true, eqb-false}
+use borrow.Author.Tests.{eq-eqb, ne-eqb, ltb-true, ltb-false, leb-false, eqb-true, eqb-false}
 use Rattle.links.specs.Lists.{at, unassigned, any, elem, range, All}
+use Rattle.links.specs.Parts.{table}
 use Rattle.links.specs.Graph.{owned}
-use Rattle.links.specs.Owners.{badRanks, tooMany, countsCause, strayOwner, emptyRank, fromOwners, Marked}
-use Rattle.links.proofs.ListLaws.{split, or-true, or-false, tally, count, count-all, count-apart, to-all, any-ext, any-none, total, counted-below, counted, any-drop, count-drop, none-counts, all-getD, elem-take}
+use Rattle.links.specs.declared.owners.Assignment.{Assignment}
+use Rattle.links.specs.declared.owners.Assignment.the-variants.{Valid, Refused}
+use Rattle.links.specs.Owners.{badRanks, tooMany, countsCause, strayOwner, emptyRank, fromOwners, assignmentNumber, AssignmentTold, Marked}
+use Rattle.links.proofs.ListLaws.{split, or-r, or-true, or-false, tally, count, count-cons, count-length, count-append, count-all, count-apart, all-to, to-all, any-ext, any-none, total, counted-below, counted, count-drop, none-counts, all-getD, elem-take}
+use Rattle.links.proofs.PartLaws.{length-table, getD-table}
 
 module _ (owners : List ℕ) (i : ℕ) (h : i < length owners) where
   pub owned-drop : (r : ℕ) → owned (drop i owners) r ≡ tally (eqb r (at owners i)) + owned (drop (i + 1) owners) r
   unfolding owned
   owned-drop r = count-drop owners i 0 h (eqb r)
 
-  pub stray-drop : (k : ℕ) → strayOwner k (drop i owners) ≡ cond (leb k (at owners i)) true (strayOwner k (drop (i + 1) owners))
-  unfolding strayOwner
-  stray-drop k = any-drop owners i 0 h (leb k)
+  pub owned-take : (r : ℕ) → owned (take (i + 1) owners) r ≡ owned (take i owners) r + tally (eqb r (at owners i))
+  unfolding owned
+  owned-take r = rw (add-one, take-suc owners i 0 h) (count-append (eqb r) (take i owners) (at owners i ∷ []) ∙ omega (arith, count-cons (eqb r) (at owners i) []))
 
 -- with no stray owner, each is below k
 pub all-below : (k : ℕ) (owners : List ℕ) → strayOwner k owners ≡ false → (i : ℕ) → i < length owners → at owners i < k
@@ -81,11 +86,98 @@ counts-limit k n e = split (badRanks k n)
 pub stray-refused : (k : ℕ) (owners : List ℕ) → countsCause k (length owners) ≡ 0 → strayOwner k owners ≡ true → 12 ≡ fromOwners k owners
 stray-refused k owners e s = rw s at (counts-passed k owners e)
 
+-- what a list is that passes: so few ranks, and each owner one of them; and no refusal has a number above 12
+pub record Assigned (k : ℕ) (owners : List ℕ) : Type 0 where
+  pub few : k ≤ 256
+  pub ranked : All (λ x. x < k) owners
+
+pub assigned : (k : ℕ) (owners : List ℕ) → fromOwners k owners ≡ 0 → Assigned k owners
+unfolding fromOwners tooMany strayOwner
+assigned k owners z = split (badRanks k (length owners))
+    (λ p. let x : _≡_ {A = ℕ} 2 0 = rw p at z in absurd (omega arith))
+    (λ p. split (ltb 16384 (length owners) || ltb 256 k)
+    (λ q. let x : _≡_ {A = ℕ} 3 0 = rw (p, q) at z in absurd (omega arith))
+    (λ q. split (any (leb k) owners)
+    (λ r. let x : _≡_ {A = ℕ} 12 0 = rw (p, q, r) at z in absurd (omega arith))
+    (λ r.
+    record {
+      few = ltb-false 256 k (or-r (ltb 16384 (length owners)) (ltb 256 k) q);
+      ranked = all-to (λ x. leb k x ≡ false) (λ x. x < k) (λ x e. leb-false k x e) owners (any-none (leb k) owners r);
+    })))
+
+pub owners-numbers : (k : ℕ) (owners : List ℕ) → fromOwners k owners ≤ 12
+unfolding fromOwners
+owners-numbers k owners = split (badRanks k (length owners))
+    (λ p. rw p (omega arith))
+    (λ p. split (tooMany k (length owners))
+    (λ q. rw (p, q) (omega arith))
+    (λ q. split (strayOwner k owners)
+    (λ r. rw (p, q, r) (omega arith))
+    (λ r. split (emptyRank k owners) (λ s. rw (p, q, r, s) (omega arith)) (λ s. rw (p, q, r, s) (omega arith)))))
+
+-- the case of an answer, by its number
+module _ (k : ℕ) (owners : List ℕ) (r : Assignment) (t : AssignmentTold k owners r) where
+  pub told-valid : r ≡ Valid → fromOwners k owners ≡ 0
+  told-valid e = sym (t .number) ∙ ap assignmentNumber e
+
+  pub told-refused : (number : ℕ) → r ≡ Refused number → fromOwners k owners ≡ 0 → ⊥
+  told-refused number e z =
+      let valid : r ≡ Valid = t .answer ∙ rw (eq-eqb (fromOwners k owners) 0 z) in
+      let clash : _≡_ {A = ℕ} 0 1 = cc in
+      omega arith
+
 -- b tells whether one of the ranks below i, which is k, is without a mark
 pub marks-decide : (k : ℕ) (owners marks : List ℕ) (i : ℕ) (b : Bool) → countsCause k (length owners) ≡ 0 → strayOwner k owners ≡ false
     → Marked owners marks (replicate 256 0) → i ≡ k → b ≡ any (λ r. eqb (at marks r) 0) (range 0 i) → cond b 9 0 ≡ fromOwners k owners
 marks-decide k owners marks i b e s m h t =
     rw (t, h, unmarked-empty owners marks 256 k m (counts-limit k (length owners) e)) (rw s at (counts-passed k owners e))
+
+-- ---- the counts of n ranks, one owner after the other
+
+pub owned-counts-none : (n : ℕ) → table (owned []) n ≡ replicate n 0
+unfolding owned
+owned-counts-none n = ext-getD 0 (table (owned []) n) (replicate n 0) (length-table (owned []) n ∙ sym (length-replicate n 0))
+    (λ r h. let l = length-table (owned []) n in getD-table (owned []) n r (omega arith) ∙ sym (getD-replicate n r 0 0 (omega arith)))
+
+module _ (owners : List ℕ) (v n : ℕ) where
+  abbrev counts : List ℕ
+  counts = table (owned (take v owners)) n
+
+  sized : length counts ≡ n
+  sized = length-table (owned (take v owners)) n
+
+  entry : (r : ℕ) → r < n → at counts r ≡ owned (take v owners) r
+  entry r h = getD-table (owned (take v owners)) n r h
+
+  -- the owner of v has one more
+  pub owned-counts-more : v < length owners → set (table (owned (take v owners)) n) (at owners v) (at (table (owned (take v owners)) n) (at owners v) + 1)
+      ≡ table (owned (take (v + 1) owners)) n
+  owned-counts-more h = ext-getD 0 (set counts o (at counts o + 1)) after (length-set counts o (at counts o + 1) ∙ sized ∙ sym (length-table (owned (take (v + 1) owners)) n))
+      (λ r l. each r (rw (length-set counts o (at counts o + 1) ∙ sized) at l))
+    where
+      o : ℕ
+      o = at owners v
+
+      after : List ℕ
+      after = table (owned (take (v + 1) owners)) n
+
+      each : (r : ℕ) → r < n → at (set counts o (at counts o + 1)) r ≡ at after r
+      each r l =
+          let more = owned-take owners v h r in
+          let there = getD-table (owned (take (v + 1) owners)) n r l in
+          split (eqb r o)
+          (λ p.
+          let e : r ≡ o = eqb-true r o p in
+          let same : at (set counts o (at counts o + 1)) r ≡ at counts o + 1 = rw e (getD-set-same counts o (at counts o + 1) 0 (omega (arith, sized))) in
+          omega (arith, same, ap (at counts) e, entry r l, rw p at more, there))
+          (λ p. getD-set-other counts o r (at counts o + 1) 0 (eqb-false r o p) ∙ entry r l ∙ sym (there ∙ rw p at more ∙ omega arith))
+
+  -- no more than are counted
+  pub owned-counts-few : (r : ℕ) → at (table (owned (take v owners)) n) r ≤ v
+  unfolding owned
+  owned-counts-few r = split (ltb r n)
+      (λ p. omega (arith, entry r (ltb-true r n p), count-length (eqb r) (take v owners), length-take v owners))
+      (λ p. omega (arith, sized, ltb-false r n p, List·getD-eq-default counts 0 {n = r} (omega (arith, sized, ltb-false r n p))))
 
 -- ---- what the ranks own together
 

@@ -8,13 +8,18 @@ use native.Mathlib.Numerals.{add-one}
 use lib.Dec.{ltb, eqb}
 use lib.ListN.{length}
 use borrow.Author.Tests.{lt-ltb, ltb-true, ne-eqb, eqb-true, eqb-false}
-use Rattle.links.specs.Lists.{at, All, filter, all, range, elem, concatMap}
+use Rattle.links.specs.Lists.{at, All, filter, any, all, range, elem, concatMap}
 use Rattle.links.specs.Graph.{strictlyRising}
-use Rattle.links.proofs.ListLaws.{split, all-of, count, count-cons, count-is}
+use Rattle.links.proofs.ListLaws.{split, all-of, all-in, any-none, any-range, elem-range, count, count-cons, count-is}
 
 pub filter-ext : (p q : ℕ → Bool) (i n : ℕ) → ((x : ℕ) → i ≤ x → x < i + n → p x ≡ q x) → filter p (range i n) ≡ filter q (range i n)
 filter-ext p q i zero e = refl
 filter-ext p q i (suc n) e = rw (e i (omega arith) (omega arith), filter-ext p q (suc i) n (λ x h k. e x (omega arith) (omega arith)))
+
+pub range-at : (a n i : ℕ) → i < n → at (range a n) i ≡ a + i
+range-at a zero i h = absurd (omega arith)
+range-at a (suc n) zero h = omega arith
+range-at a (suc n) (suc i) h = range-at (suc a) n i (omega arith) ∙ omega arith
 
 -- cut in two
 pub range-join : (i a b n m : ℕ) → n ≡ a + b → m ≡ i + a → range i n ≡ range i a ++ range m b
@@ -134,5 +139,21 @@ module _ (p : ℕ → Bool) (k i : ℕ) (h : i < k) where
   pub all-ends : p i ≡ false → false ≡ all p (range i (k - i))
   all-ends e = sym (all-head ∙ rw e)
 
+  pub any-more : p i ≡ false → any p (range (i + 1) (k - (i + 1))) ≡ any p (range i (k - i))
+  any-more e = sym (any-range p i k h ∙ rw e)
+
+  pub any-ends : p i ≡ true → true ≡ any p (range i (k - i))
+  any-ends e = sym (any-range p i k h ∙ rw e)
+
 pub all-done : (p : ℕ → Bool) (k i : ℕ) → k ≤ i → all p (range i (k - i)) ≡ true
 all-done p k i h = let e : k - i ≡ 0 = omega arith in rw e
+
+pub any-done : (p : ℕ → Bool) (k i : ℕ) → k ≤ i → false ≡ any p (range i (k - i))
+any-done p k i h = let e : k - i ≡ 0 = omega arith in rw e
+
+pub any-start : (p : ℕ → Bool) (n : ℕ) → any p (range 0 (n - 0)) ≡ any p (range 0 n)
+any-start p n = let e : n - 0 ≡ n = omega arith in rw e
+
+-- where none passes, this one does not
+pub none-passes : (p : ℕ → Bool) (n : ℕ) → any p (range 0 n) ≡ false → (i : ℕ) → i < n → p i ≡ false
+none-passes p n e i h = all-in (λ x. p x ≡ false) (range 0 n) i (any-none p (range 0 n) e) (elem-range i 0 n (omega arith) (omega arith))

@@ -6,6 +6,7 @@ mod owners;
 mod parts;
 mod workloads;
 
+pub use lists::any_from;
 pub use lists::holds;
 pub use lists::lists_cause;
 pub use lists::neighbors_cause;
@@ -25,6 +26,7 @@ pub use owners::Count;
 pub use owners::Owner;
 pub use owners::from_owners;
 pub use owners::owned_count;
+pub use owners::owned_counts;
 pub use owners::owner_of;
 pub use owners::stray_owner;
 pub use parts::copy_into;

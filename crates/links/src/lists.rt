@@ -2,6 +2,8 @@
 use crate::parts::index;
 use crate::parts::wide;
 ghost use mathlib.Core.Path.{_≡_};
+ghost use lib.Dec.{leb};
+ghost use Rattle.links.specs.Lists.{any};
 ghost use Rattle.links.specs.Graph.{vertexCount, neighborsOf, neighborsCause, neverFalling, badOffsets, ListsTested};
 ghost use Rattle.links.specs.ListTest.{validRow, validRows, mirroredRow, mirroredRows, Rising, found};
 
@@ -48,6 +50,21 @@ pub fn neighbors_of<'a, 'b>(offsets: &'b [u32], neighbors: &'a [u32], v: u64) ->
     let a = index(offsets[i]);
     let e = index(offsets[i + 1]);
     &neighbors[a..e]
+}
+
+// Whether a number is the least one or above it.
+// Rules out: the last number not looked at; the least one itself let through.
+pub fn any_from(xs: &[u32], least: u32) -> bool
+    ensures { λ r. ⌜ r ≡ any (leb least) (now (xs .entry)) ⌝ }
+{
+    let mut i = 0;
+    while i < xs.len() {
+        if xs[i] >= least {
+            return true;
+        }
+        i += 1;
+    }
+    false
 }
 
 // Whether a search by halves finds x; in a rising row, whether x is there.

@@ -1,11 +1,13 @@
 // Rule 2: assignment. An owner list is checked, and asked for an owner and for a count.
 ghost use mathlib.Core.Path.{_≡_};
-ghost use Prim.Native.Nat.{ℕ, _≤_, _<_};
-ghost use lib.ListN.{length};
+ghost use Prim.Native.Nat.{ℕ, _+_, _≤_, _<_};
+ghost use lib.ListN.{length, set};
 ghost use lib.Dec.{eqb};
 ghost use Rattle.links.specs.Lists.{at, any, range};
+ghost use Rattle.links.specs.Parts.{table};
 ghost use Rattle.links.specs.Graph.{owned};
 ghost use Rattle.links.specs.Owners.{countsCause, strayOwner, fromOwners, Marked, assignmentNumber, ownerNumber, countNumber, AssignmentTold, OwnerTold, CountTold};
+use crate::lists::any_from;
 use crate::parts::index;
 
 pub enum Assignment {
@@ -102,19 +104,36 @@ pub fn owned_count(ranks: u32, owners: &[u32], rank: u32) -> Count
     }
 }
 
+// One vertex more for the rank; for none that is not there.
+fn add_vertex(counts: &mut [u64; 256], rank: usize)
+    requires { ⌜ (length (now counts) ≡ 256) × (at (now counts) rank < 18446744073709551615) ⌝ }
+    ensures { λ _. ⌜ now (counts .exit) ≡ set (now (counts .entry)) rank (at (now (counts .entry)) rank + 1) ⌝ }
+{
+    if rank < 256 {
+        counts[rank] += 1;
+    }
+}
+
+// How many vertices each of 256 ranks owns.
+// Rules out: the last owner not counted; an owner of 256 counted for rank 0.
+pub fn owned_counts(owners: &[u32]) -> [u64; 256]
+    ensures { λ r. ⌜ r ≡ table (owned (now (owners .entry))) 256 ⌝ }
+{
+    let mut counts = [0u64; 256];
+    let mut v = 0;
+    while v < owners.len() {
+        add_vertex(&mut counts, index(owners[v]));
+        v += 1;
+    }
+    counts
+}
+
 // Whether an owner is not below the number of ranks.
 // Rules out: the last owner not looked at; an owner equal to the number of ranks let through.
 pub fn stray_owner(owners: &[u32], ranks: u32) -> bool
     ensures { λ r. ⌜ r ≡ strayOwner ranks (now (owners .entry)) ⌝ }
 {
-    let mut i = 0;
-    while i < owners.len() {
-        if owners[i] >= ranks {
-            return true;
-        }
-        i += 1;
-    }
-    false
+    any_from(owners, ranks)
 }
 
 // Marks each owner.
