@@ -23,10 +23,10 @@ use Rattle.multilevel.specs.Division.{Outcome, refused, divided, Level, 
 use Rattle.multilevel.specs.Demand3.{siteRows, balanceOf, passesOf, keptSteps, ladder, growthOn, swapsDue, moved, FairTurn, FairLevel, FairShares, Early, WithGrowth, WithoutGrowth, Demand3}
 use Rattle.links.proofs.ListLaws.{split, all-at, sum-ones}
 use Rattle.links.proofs.RowLaws.{length-rows}
+use Rattle.links.proofs.OwnerLaws.{assigned}
 use Rattle.stages.proofs.StepLaws.{foldl-append, length-steps}
 use Rattle.stages.proofs.GrowthLaws.{allPass}
 use Rattle.stages.proofs.LoadLaws.{load-owned, swaps-within, swaps-owned}
-use Rattle.stages.proofs.RankLaws.{checked-ranked}
 use Rattle.multilevel.proofs.CheckLaws.{swaps-ranked}
 use Rattle.multilevel.proofs.DivisionLaws.{Tested, tested, early-number, early-some, early-8, none-empty, chained, growthOn-fair, growthOn-last, first-at, linked-at, Late, Grew, grew, not-yet, due, due-at, Done, Solved, solve-solved}
 
@@ -64,7 +64,7 @@ module _ (b : Balance) (rows : List (List ℕ)) (ws : List ℕ) (swapping : Swap
   ranked-owners some-ranks =
       let l = d .last in
       rw (d .owners-are ∙ foldl-append after (l .moves) (l .swaps) (l .start))
-      (swaps-ranked (b .cap) rows ws (b .ranks) some-ranks (l .swaps) (moved l) (d .swapped) (checked-ranked (b .ranks) (moved l) (d .checked)))
+      (swaps-ranked (b .cap) rows ws (b .ranks) some-ranks (l .swaps) (moved l) (d .swapped) (assigned (b .ranks) (moved l) (d .checked) .ranked))
 
 -- ---- a call
 

@@ -24,6 +24,7 @@ use Rattle.multilevel.specs.Causes.{Call, badCounts, overLimits, firstOf
 use Rattle.multilevel.specs.Division.{Level, Trace, noGrowth, stopped, coarsenings, takeOver, noSwapping, refine, grow, solve}
 use Rattle.multilevel.specs.Demand3.{Lists, listsOf, ladder, growthOn, moved, ended, FairTurn, FairLevel, Early, Emptied}
 use Rattle.links.proofs.ListLaws.{split, or-l, or-r, all-append, all-in, elem-range, any-none}
+use Rattle.links.proofs.OwnerLaws.{assigned}
 use Rattle.links.proofs.SoundLaws.{sound-lists}
 use Rattle.links.proofs.WorkloadLaws.{GoodWorkloads, good-workloads}
 use Rattle.links.proofs.OptionLaws.{GoodListLength, good-swaps}
@@ -32,7 +33,7 @@ use Rattle.stages.proofs.GrowthLaws.{length-seeds, length-grown, growth-fair, a
 use Rattle.stages.proofs.LoadLaws.{growth-within, moves-within}
 use Rattle.stages.proofs.GroupingLaws.{coarse-sound, coarse-weighed, coarse-sized, coarse-load}
 use Rattle.multilevel.proofs.CauseLaws.{good-options, limited}
-use Rattle.stages.proofs.RankLaws.{grown-ranked, checked-ranked}
+use Rattle.stages.proofs.RankLaws.{grown-ranked}
 use Rattle.multilevel.proofs.LevelLaws.{level-fair}
 use Rattle.multilevel.proofs.CheckLaws.{moves-ranked, taken-all, checkNumbers, checked, unchecked, check-empty}
 
@@ -563,7 +564,7 @@ module _ (b : Balance) where
               omega (arith, co .loads (t .owners) r size, subst (λ (o : List ℕ). load (c .weights) o r ≤ b .cap) (sym still) (d .within r h));
           enough = omega (arith, d .enough, co .fewer);
           few = few;
-          ranked = taken-all (b .ranks) (t .owners) (c .group) some-ranks (rw still (checked-ranked (b .ranks) (moved (d .last)) (d .checked)));
+          ranked = taken-all (b .ranks) (t .owners) (c .group) some-ranks (rw still (assigned (b .ranks) (moved (d .last)) (d .checked) .ranked));
         })))
         (λ q. rw q (record {
           growth = ih .growth;

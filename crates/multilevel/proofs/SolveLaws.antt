@@ -14,10 +14,10 @@ use Rattle.links.specs.Owners.{fromOwners}
 use Rattle.links.specs.Options.{zeroStats, addedPairs, addedMoves, grownStats}
 use Rattle.links.specs.declared.options.AbtmMultilevelStats.{AbtmMultilevelStats}
 use Rattle.links.proofs.ListLaws.{split}
+use Rattle.links.proofs.OwnerLaws.{assigned}
 use Rattle.stages.specs.Coarsen.{Coarse}
 use Rattle.stages.specs.Seeds.{farthestSeeds}
 use Rattle.stages.specs.Growth.{Growth, weightedMultisource, grown, restartCount}
-use Rattle.stages.proofs.RankLaws.{checked-ranked}
 use Rattle.multilevel.specs.declared.driver.Answer.the-variants.{Divided, Refused}
 use Rattle.multilevel.specs.Division.{Trace, refine, grow, takeOver, noSwapping}
 use Rattle.multilevel.specs.Driver.{solved, movesFrom, movedFrom, stepCount, statsSoFar, answerFor, Told}
@@ -288,4 +288,4 @@ pub told-ranked
 told-ranked b passes rows ws cs left o s k =
     let t = solved b passes rows ws cs in
     let z = divided-of (t .refusal) (statsSoFar rows cs t) s (k .answer-is) .0 in
-    rw (k .owners-are z) (checked-ranked (b .ranks) (t .owners) (solved-checked b passes rows ws cs z))
+    rw (k .owners-are z) (assigned (b .ranks) (t .owners) (solved-checked b passes rows ws cs z) .ranked)

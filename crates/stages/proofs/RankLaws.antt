@@ -1,4 +1,4 @@
--- Every owner is a rank: what growth, a take-over, moves and the from_owners check leave. Assumes nothing.
+-- Every owner is a rank: what growth and a take-over leave. Assumes nothing.
 use Prim.Native.Nat.{ℕ, zero, suc, _+_, _-_, _≤_, _<_}
 use mathlib.Core.Path.{_≡_, refl, sym}
 use mathlib.Core.Logic.{_⊎_, inl, inr, ⊎-elim}
@@ -6,11 +6,10 @@ use mathlib.Core.Bool.{false, not}
 use mathlib.Core.List.{List, [], _∷_, map}
 use native.Mathlib.Omega.{arith}
 use lib.ListN.{length, replicate}
-use lib.Dec.{leb, eqb}
-use borrow.Author.Tests.{eqb-false, leb-false}
+use lib.Dec.{eqb}
+use borrow.Author.Tests.{eqb-false}
 use Rattle.links.specs.Lists.{at, unassigned, any, foldl, range, All}
-use Rattle.links.specs.Owners.{badRanks, tooMany, strayOwner, fromOwners}
-use Rattle.links.proofs.ListLaws.{split, all-append, all-set, all-range, all-to, any-none}
+use Rattle.links.proofs.ListLaws.{split, all-append, all-set, all-range, any-none}
 use Rattle.links.proofs.RowLaws.{all-place}
 use Rattle.stages.specs.Growth.{Growing, Turn, Choice, passes, claims, restarts, isPass, afterChoice, afterTurn, turn, round, rounds, seedOwners, seeded, weightedMultisource, grown}
 
@@ -75,14 +74,3 @@ grown-ranked cap rows weights seeds e =
 pub taken-ranked : (k : ℕ) (oc group : List ℕ) → All (λ x. x < k) oc → All (λ g. g < length oc) group → All (λ x. x < k) (map (at oc) group)
 taken-ranked k oc [] a b = tt
 taken-ranked k oc (g ∷ gs) a b = (all-place (λ x. x < k) oc g a (b .0), taken-ranked k oc gs a (b .1))
-
--- owners that pass the check
-pub checked-ranked : (k : ℕ) (owners : List ℕ) → fromOwners k owners ≡ 0 → All (λ x. x < k) owners
-unfolding fromOwners strayOwner
-checked-ranked k owners z = split (badRanks k (length owners))
-    (λ p. let x : _≡_ {A = ℕ} 2 0 = rw p at z in absurd (omega arith))
-    (λ p. split (tooMany k (length owners))
-    (λ q. let x : _≡_ {A = ℕ} 3 0 = rw (p, q) at z in absurd (omega arith))
-    (λ q. split (any (leb k) owners)
-    (λ r. let x : _≡_ {A = ℕ} 12 0 = rw (p, q, r) at z in absurd (omega arith))
-    (λ r. all-to (λ x. leb k x ≡ false) (λ x. x < k) (λ x e. leb-false k x e) owners (any-none (leb k) owners r))))
