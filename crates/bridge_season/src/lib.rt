@@ -2,7 +2,25 @@
 use visits::CraneWeek;
 ghost use mathlib.Core.Path.{_≡_};
 ghost use mathlib.Core.Bool.{cond};
+ghost use lib.ListN.{length};
 ghost use Rattle.visits.specs.Crane.{badVisits, mostVisits, earliestDay};
+ghost use Rattle.visits.specs.Season.{seasonCause, visitsAfter};
+
+// 0 and the day of each vertex is written over the front of visits; or the refusal, and nothing is.
+// Rules out: a day written on a refusal; 20 for a season that is planned.
+#[no_mangle]
+pub extern "C" fn bridge_season_days(
+    ranks: u32,
+    owners: &[u32],
+    counts: &[u32],
+    days: &[u32],
+    visits: &mut [u32],
+) -> u32
+    ensures number { λ r. ⌜ r ≡ seasonCause ranks (now (owners .entry)) (now (counts .entry)) (now (days .entry)) (length (now (visits .entry))) ⌝ }
+    ensures visits { λ _. ⌜ now (visits .exit) ≡ visitsAfter ranks (now (owners .entry)) (now (counts .entry)) (now (days .entry)) (now (visits .entry)) ⌝ }
+{
+    visits::season_days(ranks, owners, counts, days, visits).number()
+}
 
 // 0, or the refusal; the most visits and their first day, or zeros, are written.
 // Rules out: the two outputs unwritten on a refusal; the two numbers in each other's place.
