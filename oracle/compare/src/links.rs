@@ -152,7 +152,7 @@ fn small_owners(check: &mut Check) {
 }
 
 /// An owner for each of n vertices and each rank among them, if there is room; 1 a stray owner, 2 a rank left out.
-fn some_owners(random: &mut Random, n: usize, ranks: u32, wrong: u64) -> Vec<u32> {
+pub(crate) fn some_owners(random: &mut Random, n: usize, ranks: u32, wrong: u64) -> Vec<u32> {
     let bound = u64::from(ranks.max(1));
     let mut owners: Vec<u32> =
         (0..n as u64).map(|v| if v < bound { v as u32 } else { random.below(bound) as u32 }).collect();

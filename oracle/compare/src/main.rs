@@ -13,6 +13,8 @@ mod levels;
 mod link_file;
 mod links;
 mod report;
+mod season;
+mod seasons;
 mod stages;
 mod stuck;
 
@@ -41,6 +43,7 @@ fn main() {
     byhand::check(&mut report, seed, count);
     links::compare(&mut report, seed, count);
     crane::compare(&mut report, seed, count);
+    season::compare(&mut report, seed, count);
     link_file::compare(&mut report, seed, count);
     stages::compare(&mut report, seed, count);
     division::compare(&mut report, seed, count, long);

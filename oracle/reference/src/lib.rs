@@ -15,6 +15,7 @@ pub mod forced;
 pub mod link_file;
 pub mod listing;
 pub mod random;
+pub mod season;
 pub mod sites;
 mod stand_ins;
 pub mod stuck;

@@ -1,5 +1,5 @@
-//! Hipstern's division beside that of the oracle in force, in one process and one run: how many times as fast it is. A second table
-//! has crane weeks, which the Rust has none of, beside a plain count in Rust.
+//! Hipstern's division beside that of the oracle in force, in one process and one run: how many times as fast it is. Two more tables
+//! have crane weeks and season windows, which the Rust has none of, beside a plain count in Rust.
 //!
 //!     benchmark [--times NUMBER] [WORD..]
 //!
@@ -13,11 +13,16 @@
 //!
 //! A row of the second table is a list of visit days and a block of w days. The plain count (reference::crane) goes through the
 //! whole list for each visit, and tests nothing; the library, which tests the list, runs 200 times for each time of it.
+//!
+//! A row of the third table is a number of ranks, to which the vertices belong in turn, and windows with just enough open days for
+//! each rank. The plain count (reference::season) goes through all vertices before each one and through its rank's days; it gets the
+//! windows ready made, and tests nothing. The library tests owners and windows, and runs 200 times for each time of it.
 use compare::{bridge, bridge_season};
-use reference::answers::{Options, lent_needs};
+use reference::answers::{MAX_VERTICES, Options, lent_needs};
 use reference::crane::{self, LAST_DAY, MAX_VISITS};
 use reference::in_force::{self, abtm_multilevel_partition};
 use reference::random::Random;
+use reference::season::{self, Season};
 use reference::sites::{self, Question, Site};
 use reference::{Csr32Matrix, forced};
 use std::alloc::{GlobalAlloc, Layout, System};
@@ -263,6 +268,76 @@ fn crane_weeks(weeks: &[Week], times: u32) {
     }
 }
 
+// ---- season windows
+
+struct Windows {
+    name: &'static str,
+    count: u32,
+    season: Season,
+}
+
+/// All vertices in turn for so many ranks, each with so many windows, two closed days apart, of these lengths but the last, which has
+/// the days that are left.
+fn windows(name: &'static str, ranks: u32, count: u32, length: impl Fn(u32) -> u32) -> Windows {
+    let owners: Vec<u32> = (0..MAX_VERTICES as u32).map(|v| v % ranks).collect();
+    let rank_windows = |rank: u32| {
+        let mut left = owners.iter().filter(|&&owner| owner == rank).count() as u32;
+        let mut days = Vec::new();
+        for i in 1..=count {
+            let first = days.last().map_or(0, |end| end + 2);
+            let open = if i < count { length(left / (count + 1 - i)) } else { left };
+            days.extend([first, first + open]);
+            left -= open;
+        }
+        days
+    };
+    let days: Vec<Vec<u32>> = (0..ranks).map(rank_windows).collect();
+    Windows { name, count, season: Season::new(owners, &days) }
+}
+
+fn all_windows() -> Vec<Windows> {
+    let even = |share| share;
+    vec![
+        windows("windows of equal length", 5, 32, even),
+        windows("one window each", 5, 1, even),
+        windows("windows of one day, then a long one", 5, 32, |_| 1),
+        windows("windows of equal length", 256, 32, even),
+        windows("one window each", 256, 1, even),
+    ]
+}
+
+/// The least times of the library and of the plain count. A difference ends the run.
+fn measure_windows(row: &Windows, times: u32) -> (Duration, Duration) {
+    let (mut ours, mut plain) = (Duration::MAX, Duration::MAX);
+    let good = season::windows(&row.season).expect("good windows");
+    let mut visits = vec![1u32; row.season.lent];
+    for _ in 0..times {
+        let (owners, good) = (black_box(row.season.owners.as_slice()), black_box(good.as_slice()));
+        let counted = timed(&mut plain, || season::plain(owners, good)).expect("enough days");
+        for _ in 0..200 {
+            let Season { ranks, owners, counts, days, .. } = black_box(&row.season);
+            let number = timed(&mut ours, || bridge_season::season_days(*ranks, owners, counts, days, &mut visits));
+            assert_eq!((number, &visits), (0, &counted), "{}, k {ranks}", row.name);
+            visits.fill(1);
+        }
+    }
+    (ours, plain)
+}
+
+/// The table of season windows, after an empty line.
+fn season_windows(rows: &[Windows], times: u32) {
+    println!(
+        "\n| windows | n | k | windows of a rank | the plain count in Rust, ms | the library, ms | times as fast |"
+    );
+    println!("|---|---|---|---|---|---|---|");
+    for row in rows {
+        let (ours, plain) = measure_windows(row, times);
+        let ratio = plain.as_secs_f64() / ours.as_secs_f64();
+        let (Windows { name, count, season }, n) = (row, row.season.owners.len());
+        println!("| {name} | {n} | {} | {count} | {:.3} | {:.3} | {ratio:.1} |", season.ranks, ms(plain), ms(ours));
+    }
+}
+
 fn main() {
     let (mut times, mut only) = (5u32, Vec::new());
     let mut words = std::env::args().skip(1);
@@ -275,10 +350,14 @@ fn main() {
     let chosen = |name: &str| only.is_empty() || only.iter().any(|w| name.contains(w.as_str()));
     let rows: Vec<Row> = rows().into_iter().filter(|row| chosen(&row.name)).collect();
     let weeks: Vec<Week> = weeks().into_iter().filter(|week| chosen(week.name)).collect();
+    let windows: Vec<Windows> = all_windows().into_iter().filter(|row| chosen(row.name)).collect();
     if !rows.is_empty() {
         divisions(&rows, times);
     }
     if !weeks.is_empty() {
         crane_weeks(&weeks, times);
+    }
+    if !windows.is_empty() {
+        season_windows(&windows, times);
     }
 }
