@@ -117,11 +117,11 @@ owners-numbers k owners = split (badRanks k (length owners))
 
 -- the case of an answer, by its number
 module _ (k : ℕ) (owners : List ℕ) (r : Assignment) (t : AssignmentTold k owners r) where
-  pub told-valid : r ≡ Valid → fromOwners k owners ≡ 0
-  told-valid e = sym (t .number) ∙ ap assignmentNumber e
+  pub assignment-valid : r ≡ Valid → fromOwners k owners ≡ 0
+  assignment-valid e = sym (t .number) ∙ ap assignmentNumber e
 
-  pub told-refused : (number : ℕ) → r ≡ Refused number → fromOwners k owners ≡ 0 → ⊥
-  told-refused number e z =
+  pub assignment-refused : (number : ℕ) → r ≡ Refused number → fromOwners k owners ≡ 0 → ⊥
+  assignment-refused number e z =
       let valid : r ≡ Valid = t .answer ∙ rw (eq-eqb (fromOwners k owners) 0 z) in
       let clash : _≡_ {A = ℕ} 0 1 = cc in
       omega arith

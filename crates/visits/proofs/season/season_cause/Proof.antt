@@ -1,7 +1,7 @@
 -- The tests in their order. Assumes nothing.
 use mathlib.Core.Path.{sym, _∙_}
 use borrow.Author.Needs.{needs}
-use Rattle.links.proofs.OwnerLaws.{assigned, told-valid, told-refused}
+use Rattle.links.proofs.OwnerLaws.{assigned, assignment-valid, assignment-refused}
 use Rattle.visits.proofs.SeasonLaws.{cause-owners, cause-short, cause-windows, windows-passed, cause-days}
 use Rattle.visits.proofs.season.season_cause.Statement.{statement}
 use Rattle.visits.proofs.season.season_cause.Tie as tie
@@ -25,7 +25,7 @@ returns c =
     let c7 = c3 .before .before .before .before in
     let a = c7 .args in
     let told = c3 .from-owners .ensures in
-    c .number .ensures ∙ told .number ∙ sym (cause-owners (a .ranks) (a .owners .now) (a .counts .now) (a .days .now) (a .room) (told-refused (a .ranks) (a .owners .now) _ told _ (c1 .enum-told2 .given .1)))
+    c .number .ensures ∙ told .number ∙ sym (cause-owners (a .ranks) (a .owners .now) (a .counts .now) (a .days .now) (a .room) (assignment-refused (a .ranks) (a .owners .now) _ told _ (c1 .enum-told2 .given .1)))
 
 returns-2 : tie.Need-returns-2
 returns-2 c =
@@ -33,7 +33,7 @@ returns-2 c =
     let c3 = c1 .before .before in
     let c7 = c3 .before .before .before .before in
     let a = c7 .args in
-    sym (cause-short (a .ranks) (a .owners .now) (a .counts .now) (a .days .now) (a .room) (told-valid (a .ranks) (a .owners .now) _ (c3 .from-owners .ensures) (c1 .enum-told .given .1)) (c .if1 .taken))
+    sym (cause-short (a .ranks) (a .owners .now) (a .counts .now) (a .days .now) (a .room) (assignment-valid (a .ranks) (a .owners .now) _ (c3 .from-owners .ensures) (c1 .enum-told .given .1)) (c .if1 .taken))
 
 bad-windows-requires : tie.Need-bad-windows-requires
 bad-windows-requires c κs =
@@ -41,7 +41,7 @@ bad-windows-requires c κs =
     let c3 = c1 .before .before in
     let c7 = c3 .before .before .before .before in
     let a = c7 .args in
-    assigned (a .ranks) (a .owners .now) (told-valid (a .ranks) (a .owners .now) _ (c3 .from-owners .ensures) (c1 .enum-told .given .1)) .few
+    assigned (a .ranks) (a .owners .now) (assignment-valid (a .ranks) (a .owners .now) _ (c3 .from-owners .ensures) (c1 .enum-told .given .1)) .few
 
 returns-3 : tie.Need-returns-3
 returns-3 c =
@@ -51,7 +51,7 @@ returns-3 c =
     let c5 = c3 .before .before in
     let c9 = c5 .before .before .before .before in
     let a = c9 .args in
-    let valid = told-valid (a .ranks) (a .owners .now) _ (c5 .from-owners .ensures) (c3 .enum-told .given .1) in
+    let valid = assignment-valid (a .ranks) (a .owners .now) _ (c5 .from-owners .ensures) (c3 .enum-told .given .1) in
     sym (cause-windows (a .ranks) (a .owners .now) (a .counts .now) (a .days .now) (a .room) valid (c2 .if1 .left) (sym (c1 .bad-windows .ensures) ∙ c .if2 .taken))
 
 too-few-days-requires : tie.Need-too-few-days-requires
@@ -61,7 +61,7 @@ too-few-days-requires c κs =
     let c5 = c3 .before .before in
     let c9 = c5 .before .before .before .before in
     let a = c9 .args in
-    let valid = told-valid (a .ranks) (a .owners .now) _ (c5 .from-owners .ensures) (c3 .enum-told .given .1) in
+    let valid = assignment-valid (a .ranks) (a .owners .now) _ (c5 .from-owners .ensures) (c3 .enum-told .given .1) in
     windows-passed (a .ranks) (a .counts .now) (a .days .now) (assigned (a .ranks) (a .owners .now) valid .few) (sym (c1 .bad-windows .ensures) ∙ c .if2 .left) .1
 
 returns-4 : tie.Need-returns-4
@@ -74,7 +74,7 @@ returns-4 c =
     let c7 = c5 .before .before in
     let c11 = c7 .before .before .before .before in
     let a = c11 .args in
-    let valid = told-valid (a .ranks) (a .owners .now) _ (c7 .from-owners .ensures) (c5 .enum-told .given .1) in
+    let valid = assignment-valid (a .ranks) (a .owners .now) _ (c7 .from-owners .ensures) (c5 .enum-told .given .1) in
     sym (cause-days (a .ranks) (a .owners .now) (a .counts .now) (a .days .now) (a .room) valid (c4 .if1 .left) (sym (c3 .bad-windows .ensures) ∙ c2 .if2 .left) _ (c1 .too-few-days .ensures) ∙ rw (c .if3 .taken))
 
 returns-5 : tie.Need-returns-5
@@ -87,7 +87,7 @@ returns-5 c =
     let c7 = c5 .before .before in
     let c11 = c7 .before .before .before .before in
     let a = c11 .args in
-    let valid = told-valid (a .ranks) (a .owners .now) _ (c7 .from-owners .ensures) (c5 .enum-told .given .1) in
+    let valid = assignment-valid (a .ranks) (a .owners .now) _ (c7 .from-owners .ensures) (c5 .enum-told .given .1) in
     sym (cause-days (a .ranks) (a .owners .now) (a .counts .now) (a .days .now) (a .room) valid (c4 .if1 .left) (sym (c3 .bad-windows .ensures) ∙ c2 .if2 .left) _ (c1 .too-few-days .ensures) ∙ rw (c .if3 .left))
 
 pub season-cause-spec : {M : Type 1} → statement M
