@@ -1,7 +1,8 @@
 //! Compares Hipstern, through the archives of crates bridge, bridge_stages and bridge_season, with the Rust (crate reference).
 //!
-//!     compare [--long] [--seed NUMBER] [--count NUMBER]
+//!     compare [--long] [--seed NUMBER] [--count NUMBER] [WORD..]
 //!
+//! Words choose the checks whose name has one of them; with none, all are run.
 //! The count is how many random inputs a check draws (20000 if not given, 1000000 with --long). With --long the graphs of five
 //! vertices are divided in every check of all small ones, the largest forced runs are made, and request P14's least imbalance is
 //! tried for every number of vertices and ranks. The exit status is 1 where an answer differs.
@@ -22,12 +23,12 @@ use compare::{bridge, bridge_season};
 use report::Report;
 
 fn usage() -> ! {
-    eprintln!("usage: compare [--long] [--seed NUMBER] [--count NUMBER]");
+    eprintln!("usage: compare [--long] [--seed NUMBER] [--count NUMBER] [WORD..]");
     std::process::exit(2)
 }
 
 fn main() {
-    let (mut seed, mut count, mut long) = (1u64, None, false);
+    let (mut seed, mut count, mut long, mut report) = (1u64, None, false, Report::default());
     let mut words = std::env::args().skip(1);
     while let Some(word) = words.next() {
         let mut number = || words.next().and_then(|w| w.parse().ok()).unwrap_or_else(|| usage());
@@ -35,11 +36,11 @@ fn main() {
             "--seed" => seed = number(),
             "--count" => count = Some(number()),
             "--long" => long = true,
-            _ => usage(),
+            option if option.starts_with('-') => usage(),
+            _ => report.chosen.push(word),
         }
     }
     let count = count.unwrap_or(if long { 1_000_000 } else { 20_000 });
-    let mut report = Report::default();
     byhand::check(&mut report, seed, count);
     links::compare(&mut report, seed, count);
     crane::compare(&mut report, seed, count);
