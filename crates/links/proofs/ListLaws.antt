@@ -367,6 +367,10 @@ filter-none p a n e v h k = split (p v)
     (λ q. absurd (false≢true (ap (elem v) (sym e) ∙ elem-filter v p (range a n) ∙ and-i (p v) (elem v (range a n)) q (elem-range v a n h k))))
     (λ q. q)
 
+pub filter-all : (p : ℕ → Bool) (xs : List ℕ) → All (λ x. p x ≡ true) xs → filter p xs ≡ xs
+filter-all p [] a = refl
+filter-all p (x ∷ xs) a = rw (a .0, filter-all p xs (a .1))
+
 pub none-filter : (p : ℕ → Bool) (xs : List ℕ) → All (λ x. p x ≡ false) xs → filter p xs ≡ []
 none-filter p [] a = refl
 none-filter p (x ∷ xs) a = rw (a .0) (none-filter p xs (a .1))

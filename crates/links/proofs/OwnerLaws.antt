@@ -1,12 +1,12 @@
 -- Laws of owner lists: one owner more counted, met or marked; what the marks are worth; what the ranks own together. Assumes nothing.
-use Prim.Native.Nat.{ℕ, _+_, _≤_, _<_}
+use Prim.Native.Nat.{ℕ, _+_, _-_, _≤_, _<_}
 use mathlib.Core.Path.{_≡_, refl, sym, ap, _∙_}
 use mathlib.Core.Bool.{Bool, true, false, _||_, cond}
 use mathlib.Core.List.{List, [], _∷_}
 use native.Mathlib.Omega.{arith}
 use native.Mathlib.Numerals.{add-one}
 use lib.ListN.{length, take, drop, set, replicate, length-set, length-take, length-replicate, getD-replicate, List·getD-eq-default}
-use lib.Seq.{take-suc, ext-getD, getD-set-same, getD-set-other}
+use lib.Seq.{take-suc, take-length, take-add, ext-getD, getD-set-same, getD-set-other}
 use lib.Dec.{leb, ltb, eqb}
 use borrow.Author.Tests.{eq-eqb, ne-eqb, ltb-true, ltb-false, leb-false, eqb-true, eqb-false}
 use Rattle.links.specs.Lists.{at, unassigned, any, elem, range, All}
@@ -178,6 +178,25 @@ module _ (owners : List ℕ) (v n : ℕ) where
   owned-counts-few r = split (ltb r n)
       (λ p. omega (arith, entry r (ltb-true r n p), count-length (eqb r) (take v owners), length-take v owners))
       (λ p. omega (arith, sized, ltb-false r n p, List·getD-eq-default counts 0 {n = r} (omega (arith, sized, ltb-false r n p))))
+
+-- ---- how many of a rank's vertices come before v
+
+module _ (owners : List ℕ) (v : ℕ) (h : v < length owners) where
+  -- before a later vertex, or the end, there is v too
+  pub owned-later : (w : ℕ) → v < w → owned (take v owners) (at owners v) < owned (take w owners) (at owners v)
+  unfolding owned
+  owned-later w k =
+      let o = at owners v in
+      let e : v + 1 + (w - (v + 1)) ≡ w = omega arith in
+      let more : count (eqb o) (take w owners) ≡ count (eqb o) (take (v + 1) owners) + count (eqb o) (take (w - (v + 1)) (drop (v + 1) owners)) =
+      ap (λ (i : ℕ). count (eqb o) (take i owners)) (sym e) ∙ ap (count (eqb o)) (take-add (v + 1) (w - (v + 1)) owners) ∙ count-append (eqb o) (take (v + 1) owners) (take (w - (v + 1)) (drop (v + 1) owners)) in
+      omega (arith, more, owned-self)
+    where
+      owned-self : count (eqb (at owners v)) (take (v + 1) owners) ≡ count (eqb (at owners v)) (take v owners) + 1
+      owned-self = owned-take owners v h (at owners v) ∙ rw (eq-eqb (at owners v) (at owners v) refl)
+
+  pub owned-before : owned (take v owners) (at owners v) < owned owners (at owners v)
+  owned-before = omega (arith, owned-later (length owners) h, ap (λ (l : List ℕ). owned l (at owners v)) (take-length owners))
 
 -- ---- what the ranks own together
 

@@ -115,7 +115,7 @@ fn add_vertex(counts: &mut [u64; 256], rank: usize)
 }
 
 // How many vertices each of 256 ranks owns.
-// Rules out: the last owner not counted; an owner of 256 counted for rank 0.
+// Rules out: the last owner not counted; rank 255 left out.
 pub fn owned_counts(owners: &[u32]) -> [u64; 256]
     ensures { λ r. ⌜ r ≡ table (owned (now (owners .entry))) 256 ⌝ }
 {

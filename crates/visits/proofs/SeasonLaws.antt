@@ -6,21 +6,21 @@ use mathlib.Core.List.{List, _++_}
 use mathlib.Core.Logic.{_⊎_, inl, inr, ⊎-elim}
 use native.Mathlib.Omega.{arith}
 use lib.ListN.{length, take, drop, set, replicate, length-set, length-replicate, take-append-drop, List·getD-append}
-use lib.Seq.{take-length, take-add, getD-set-same, getD-set-other}
+use lib.Seq.{take-length, getD-set-same, getD-set-other}
 use lib.Dec.{ltb, eqb}
 use borrow.Author.Tests.{eq-eqb, ne-eqb, eqb-true, eqb-false, lt-ltb, le-ltb, ltb-true, ltb-false, not-false}
 use Rattle.links.specs.Lists.{at, any, range, sum}
 use Rattle.links.specs.Parts.{part, table}
 use Rattle.links.specs.Graph.{owned}
 use Rattle.links.specs.Owners.{fromOwners}
-use Rattle.links.proofs.ListLaws.{split, or-l, or-r, all-getD, all-range, any-none, any-of, all-in, elem-range, to-any, count, count-append, sum-take, sum-append}
+use Rattle.links.proofs.ListLaws.{split, or-l, or-r, all-getD, all-range, any-none, any-of, all-in, elem-range, to-any, sum-take, sum-append}
 use Rattle.links.proofs.CauseLaws.{cause-fails}
 use Rattle.links.proofs.RangeLaws.{none-passes}
 use Rattle.links.proofs.PartLaws.{length-part, fill, length-table, getD-table}
-use Rattle.links.proofs.OwnerLaws.{owned-take, assigned, owners-numbers}
+use Rattle.links.proofs.OwnerLaws.{owned-later, owned-before, assigned, owners-numbers}
 use Rattle.visits.specs.declared.season.Season.{Season}
 use Rattle.visits.specs.declared.season.Season.the-variants.{Planned, Refused}
-use Rattle.visits.specs.Season.{windowsIn, isOpen, openDays, goodWindows, daysFrom, windowsOf, misplaced, badWindows, lacksDays, tooFewDays, seasonCause, visitDay, visitDays, visitsAfter, Tested, Lacking, SeasonTold}
+use Rattle.visits.specs.Season.{windowsIn, isOpen, openDays, goodWindows, daysFrom, windowsOf, misplaced, badWindows, lacksDays, tooFewDays, windowsCause, seasonCause, visitDay, visitDays, visitsAfter, Tested, Lacking, SeasonTold}
 use Rattle.visits.specs.SeasonCode.{spanned, FewCounts, Laid, Good, Plannable, Started}
 use Rattle.visits.proofs.WindowLaws.{open-spanned, open-at, open-rises}
 
@@ -63,7 +63,7 @@ module _ (counts starts : List ℕ) (f : FewCounts counts) (r : ℕ) (h : r < le
             getD-set-other starts (r + 1) i (at starts r + 2 * at counts r) 0 d ∙ s .entry i (omega arith));
       }
 
-module _ (counts days starts : List ℕ) (l : Laid counts days) (s : Started counts starts (length counts)) (r : ℕ) (h : r < length counts) where
+module _ {counts days starts : List ℕ} (l : Laid counts days) (s : Started counts starts (length counts)) (r : ℕ) (h : r < length counts) where
   begins : at starts r ≡ daysFrom counts r
   begins = s .entry r (omega arith)
 
@@ -85,25 +85,25 @@ module _ (counts days starts : List ℕ) (l : Laid counts days) (s : Started cou
   unfolding windowsOf
   part-windows = rw (begins, ends)
 
-  pub misplaced-is : (w : List ℕ) (b : Bool) → w ≡ part days (at starts r) (at starts (r + 1)) → b ≡ goodWindows (windowsIn w) → misplaced counts days r ≡ not b
-  misplaced-is w b e t = ap not (sym (t ∙ ap (λ (l : List ℕ). goodWindows (windowsIn l)) e ∙ ap goodWindows part-windows))
+  pub misplaced-is : {w : List ℕ} {b : Bool} → w ≡ part days (at starts r) (at starts (r + 1)) → b ≡ goodWindows (windowsIn w) → misplaced counts days r ≡ not b
+  misplaced-is {w} {b} e t = ap not (sym (t ∙ ap (λ (l : List ℕ). goodWindows (windowsIn l)) e ∙ ap goodWindows part-windows))
 
-module _ (counts days starts : List ℕ) (g : Good counts days) (s : Started counts starts (length counts)) (r : ℕ) (h : r < length counts) where
+module _ {counts days starts : List ℕ} (g : Good counts days) (s : Started counts starts (length counts)) (r : ℕ) (h : r < length counts) where
   -- the days of the part are the rank's open days
   pub part-days : (w : List ℕ) → w ≡ part days (at starts r) (at starts (r + 1)) → spanned (windowsIn w) ≡ openDays (windowsOf counts days r)
   part-days w e =
       ap (λ (l : List ℕ). spanned (windowsIn l)) e
-      ∙ ap spanned (part-windows counts days starts (g .laid) s r h)
+      ∙ ap spanned (part-windows (g .laid) s r h)
       ∙ sym (open-spanned (windowsOf counts days r) (not-false _ (none-passes (misplaced counts days) (length counts) (g .placed) r h)))
 
   -- fewer days than the counts of all ranks have for it
   pub lacks-is
-      : (owners w counted : List ℕ) (n : ℕ)
+      : (owners : List ℕ) {w counted : List ℕ} {n : ℕ}
       → w ≡ part days (at starts r) (at starts (r + 1))
       → n ≡ length (spanned (windowsIn w))
       → counted ≡ table (owned owners) 256
       → lacksDays owners counts days r ≡ ltb n (at counted r)
-  lacks-is owners w counted n e t u =
+  lacks-is owners {w} {counted} {n} e t u =
       let own : at counted r ≡ owned owners r = rw u (getD-table (owned owners) 256 r (omega (arith, g .laid .few .ranks))) in
       rw (t, part-days w e, own)
 
@@ -130,6 +130,14 @@ windows-passed k counts days h e =
       },
     )
 
+-- past 19 it is what the test for 20 answers, of as many ranks as there are counts
+pub windows-days
+    : (k : ℕ) (owners counts days : List ℕ) → k ≤ 256 → badWindows k counts days ≡ false → (b : Bool) → b ≡ tooFewDays (length counts) owners counts days
+    → windowsCause k owners counts days ≡ cond b 20 0
+windows-days k owners counts days h w b e =
+    let size = windows-passed k counts days h w .0 in
+    rw (w, e, size)
+
 module _ (k : ℕ) (owners counts days : List ℕ) (room : ℕ) where
   -- each number in its place
   pub cause-owners : (fromOwners k owners ≡ 0 → ⊥) → seasonCause k owners counts days room ≡ fromOwners k owners
@@ -140,22 +148,13 @@ module _ (k : ℕ) (owners counts days : List ℕ) (room : ℕ) where
   unfolding seasonCause
   cause-short z h = rw (eq-eqb (fromOwners k owners) 0 z, lt-ltb room (length owners) h)
 
-  pub cause-windows : fromOwners k owners ≡ 0 → length owners ≤ room → badWindows k counts days ≡ true → seasonCause k owners counts days room ≡ 19
+  pub cause-windows : fromOwners k owners ≡ 0 → length owners ≤ room → seasonCause k owners counts days room ≡ windowsCause k owners counts days
   unfolding seasonCause
-  cause-windows z h b = rw (eq-eqb (fromOwners k owners) 0 z, le-ltb room (length owners) h, b)
+  cause-windows z h = rw (eq-eqb (fromOwners k owners) 0 z, le-ltb room (length owners) h)
 
   -- past 19 it is 20, or none
   pub cause-tested : Tested k owners counts days room → seasonCause k owners counts days room ≡ cond (tooFewDays k owners counts days) 20 0
-  unfolding seasonCause
-  cause-tested t = rw (eq-eqb (fromOwners k owners) 0 (t .owners-pass), le-ltb room (length owners) (t .roomy), t .windows-pass)
-
-  -- so it is what the test for 20 answers, of as many ranks as there are counts
-  pub cause-days
-      : fromOwners k owners ≡ 0 → length owners ≤ room → badWindows k counts days ≡ false → (b : Bool) → b ≡ tooFewDays (length counts) owners counts days
-      → seasonCause k owners counts days room ≡ cond b 20 0
-  cause-days z h w b e =
-      let size = windows-passed k counts days (assigned k owners z .few) w .0 in
-      cause-tested (record { owners-pass = z; roomy = h; windows-pass = w }) ∙ rw (e, size)
+  cause-tested t = cause-windows (t .owners-pass) (t .roomy) ∙ rw (t .windows-pass)
 
   -- and 20 or none come only there
   pub tested-of : (seasonCause k owners counts days room ≡ 0) ⊎ (seasonCause k owners counts days room ≡ 20) → Tested k owners counts days room
@@ -209,25 +208,6 @@ module _ (owners counts days : List ℕ) where
   written-at visits v h =
       List·getD-append (table (visitDay owners counts days) (length owners)) (drop (length owners) visits) 0 v (omega (arith, length-table (visitDay owners counts days) (length owners)))
       ∙ getD-table (visitDay owners counts days) (length owners) v h
-
--- ---- how many of a rank's vertices come before v
-
-module _ (owners : List ℕ) (v : ℕ) (h : v < length owners) where
-  -- before a later vertex, or the end, there is v too
-  pub owned-later : (w : ℕ) → v < w → owned (take v owners) (at owners v) < owned (take w owners) (at owners v)
-  unfolding owned
-  owned-later w k =
-      let o = at owners v in
-      let e : v + 1 + (w - (v + 1)) ≡ w = omega arith in
-      let more : count (eqb o) (take w owners) ≡ count (eqb o) (take (v + 1) owners) + count (eqb o) (take (w - (v + 1)) (drop (v + 1) owners)) =
-      ap (λ (i : ℕ). count (eqb o) (take i owners)) (sym e) ∙ ap (count (eqb o)) (take-add (v + 1) (w - (v + 1)) owners) ∙ count-append (eqb o) (take (v + 1) owners) (take (w - (v + 1)) (drop (v + 1) owners)) in
-      omega (arith, more, owned-self)
-    where
-      owned-self : count (eqb (at owners v)) (take (v + 1) owners) ≡ count (eqb (at owners v)) (take v owners) + 1
-      owned-self = owned-take owners v h (at owners v) ∙ rw (eq-eqb (at owners v) (at owners v) refl)
-
-  pub owned-before : owned (take v owners) (at owners v) < owned owners (at owners v)
-  owned-before = omega (arith, owned-later (length owners) h, ap (λ (l : List ℕ). owned l (at owners v)) (take-length owners))
 
 -- ---- the promise
 

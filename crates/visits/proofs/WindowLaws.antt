@@ -1,15 +1,15 @@
 -- Laws of one rank's windows: two days at a time, and the open days of good windows one window after the other. Assumes nothing.
 use Prim.Native.Nat.{ℕ, suc, _+_, _-_, _≤_, _<_}
 use mathlib.Core.Path.{_≡_, refl, sym, ap, _∙_}
-use mathlib.Core.Bool.{Bool, true, false, _&&_}
+use mathlib.Core.Bool.{true, false, _&&_}
 use mathlib.Core.List.{List, [], _∷_, _++_}
 use native.Mathlib.Omega.{arith}
 use lib.ListN.{length, drop, length-append, length-drop, List·getD-append}
 use lib.Seq.{drop-cons, getD-append-add}
 use lib.Dec.{leb, ltb}
 use borrow.Author.Tests.{le-leb, lt-leb, lt-ltb, le-ltb, leb-true, ltb-true}
-use Rattle.links.specs.Lists.{at, All, filter, range}
-use Rattle.links.proofs.ListLaws.{and-l, and-r, length-range, all-range, none-filter, filter-append, all-getD, all-kept}
+use Rattle.links.specs.Lists.{at, filter, range}
+use Rattle.links.proofs.ListLaws.{and-l, and-r, length-range, all-range, filter-all, none-filter, filter-append, all-getD, all-kept}
 use Rattle.links.proofs.RangeLaws.{range-at, range-join, filter-ext, filter-rises}
 use Rattle.links.proofs.ApartLaws.{rises-by}
 use Rattle.visits.specs.Season.{windowsIn, isOpen, openDays, goodWindow, goodFrom, goodWindows}
@@ -104,10 +104,6 @@ open-later : (w : ℕ × ℕ) (later : List (ℕ × ℕ)) (d : ℕ) → w .1 ≤
 unfolding isOpen
 open-later w later d h k = rw (le-leb (w .0) d k, le-ltb d (w .1) h)
 
-all-pass : (p : ℕ → Bool) (xs : List ℕ) → All (λ x. p x ≡ true) xs → filter p xs ≡ xs
-all-pass p [] a = refl
-all-pass p (x ∷ xs) a = rw (a .0, all-pass p xs (a .1))
-
 -- from the day on that they begin behind
 open-from : (before : ℕ) (ws : List (ℕ × ℕ)) → before ≤ 3661 → goodFrom before ws ≡ true → filter (isOpen ws) (range before (3661 - before)) ≡ spanned ws
 unfolding isOpen
@@ -124,7 +120,7 @@ open-from before (w ∷ later) h e =
     range-join first (end - first) (3661 - end) (3661 - first) end (omega (arith, good .some, good .last)) (omega (arith, good .some)) in
     let none : filter p (range before (first - before)) ≡ [] = none-filter p (range before (first - before)) (all-range (λ d. p d ≡ false) before (first - before)
     (λ d k l. closed-in d g (omega (arith, good .behind)))) in
-    let all-open : filter p (range first (end - first)) ≡ range first (end - first) = all-pass p (range first (end - first)) (all-range (λ d. p d ≡ true) first (end - first)
+    let all-open : filter p (range first (end - first)) ≡ range first (end - first) = filter-all p (range first (end - first)) (all-range (λ d. p d ≡ true) first (end - first)
     (λ d k l. open-here w later d k (omega (arith, good .some)))) in
     let rest : filter p (range end (3661 - end)) ≡ filter (isOpen later) (range end (3661 - end)) = filter-ext p (isOpen later) end (3661 - end)
     (λ d k l. open-later w later d k (omega (arith, good .some))) in

@@ -69,11 +69,16 @@ lacksDays owners counts days r = ltb (length (openDays (windowsOf counts days r)
 unfoldable pub tooFewDays : ℕ → List ℕ → List ℕ → List ℕ → Bool
 tooFewDays k owners counts days = any (lacksDays owners counts days) (range 0 k)
 
+-- "then the windows": 19, and 20 "after 19"
+abbrev pub windowsCause : ℕ → List ℕ → List ℕ → List ℕ → ℕ
+windowsCause k owners counts days =
+    let few : ℕ = cond (tooFewDays k owners counts days) 20 0 in
+    cond (badWindows k counts days) 19 few
+
 -- "those of `from_owners`, 5, then the windows"; 0 if none refuses, with so much room for days
 unfoldable pub seasonCause : ℕ → List ℕ → List ℕ → List ℕ → ℕ → ℕ
 seasonCause k owners counts days room =
-    let few : ℕ = cond (tooFewDays k owners counts days) 20 0 in
-    let windows : ℕ = cond (badWindows k counts days) 19 few in
+    let windows : ℕ = windowsCause k owners counts days in
     let short : ℕ = cond (ltb room (length owners)) 5 windows in
     cond (eqb (fromOwners k owners) 0) short (fromOwners k owners)
 

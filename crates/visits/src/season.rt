@@ -13,7 +13,7 @@ ghost use mathlib.Core.List.{_++_};
 ghost use lib.ListN.{length, drop};
 ghost use Rattle.links.specs.Lists.{at, any, range};
 ghost use Rattle.links.specs.Parts.{part};
-ghost use Rattle.visits.specs.Season.{misplaced, badWindows, tooFewDays, seasonCause, visitDays, seasonNumber, SeasonTold};
+ghost use Rattle.visits.specs.Season.{misplaced, badWindows, tooFewDays, windowsCause, seasonCause, visitDays, seasonNumber, SeasonTold};
 ghost use Rattle.visits.specs.SeasonCode.{FewCounts, Laid, Good, Plannable, Started};
 
 // The days are written, or a refusal.
@@ -111,6 +111,20 @@ fn too_few_days(owners: &[u32], counts: &[u32], days: &[u32]) -> bool
     false
 }
 
+// 0, or the first of 19 and 20.
+fn windows_cause(ranks: u32, owners: &[u32], counts: &[u32], days: &[u32]) -> u32
+    requires { ⌜ ranks ≤ 256 ⌝ }
+    ensures { λ r. ⌜ r ≡ windowsCause ranks (now (owners .entry)) (now (counts .entry)) (now (days .entry)) ⌝ }
+{
+    if bad_windows(ranks, counts, days) {
+        return 19;
+    }
+    if too_few_days(owners, counts, days) {
+        return 20;
+    }
+    0
+}
+
 // 0, or the first of 2, 3, 12, 9, 5, 19, 20, with room for so many days.
 fn season_cause(ranks: u32, owners: &[u32], counts: &[u32], days: &[u32], room: usize) -> u32
     ensures { λ r. ⌜ r ≡ seasonCause ranks (now (owners .entry)) (now (counts .entry)) (now (days .entry)) room ⌝ }
@@ -122,13 +136,7 @@ fn season_cause(ranks: u32, owners: &[u32], counts: &[u32], days: &[u32], room: 
     if room < owners.len() {
         return 5;
     }
-    if bad_windows(ranks, counts, days) {
-        return 19;
-    }
-    if too_few_days(owners, counts, days) {
-        return 20;
-    }
-    0
+    windows_cause(ranks, owners, counts, days)
 }
 
 // The day of each vertex over the front of visits.

@@ -1,7 +1,7 @@
 // One rank's windows of days (request P11): first and end days in turn.
 use links::wide;
 ghost use mathlib.Core.Path.{_≡_};
-ghost use Prim.Native.Nat.{_-_, _≤_};
+ghost use Prim.Native.Nat.{_+_, _-_, _≤_, _<_};
 ghost use lib.ListN.{length};
 ghost use Rattle.links.specs.Lists.{at};
 ghost use Rattle.visits.specs.Season.{windowsIn, goodWindow, goodWindows};
@@ -37,10 +37,13 @@ pub(crate) fn good_windows(windows: &[u32]) -> bool
     true
 }
 
-// How many days a window has.
-fn width(first: u64, end: u64) -> u64
-    ensures { λ r. ⌜ r ≡ end - first ⌝ }
+// How many days the window at place i has.
+fn width(windows: &[u32], i: usize) -> u64
+    requires { ⌜ i + 1 < length (now windows) ⌝ }
+    ensures { λ r. ⌜ r ≡ at (now (windows .entry)) (i + 1) - at (now (windows .entry)) i ⌝ }
 {
+    let first = wide(windows[i]);
+    let end = wide(windows[i + 1]);
     if first < end { end - first } else { 0 }
 }
 
@@ -52,7 +55,7 @@ pub(crate) fn count_days(windows: &[u32]) -> u64
     let mut count: u64 = 0;
     let mut i = 0;
     while i + 1 < windows.len() {
-        count += width(wide(windows[i]), wide(windows[i + 1]));
+        count += width(windows, i);
         i += 2;
     }
     count
@@ -65,10 +68,9 @@ pub(crate) fn day_at(windows: &[u32], j: u64) -> u32
     let mut left = j;
     let mut i = 0;
     while i + 1 < windows.len() {
-        let first = wide(windows[i]);
-        let days = width(first, wide(windows[i + 1]));
+        let days = width(windows, i);
         if left < days {
-            return (first + left) as u32;
+            return (wide(windows[i]) + left) as u32;
         }
         left -= days;
         i += 2;

@@ -19,8 +19,7 @@ abbrev μ-loop : tie.MeasureT-loop
 
 starts-of-requires : tie.Need-starts-of-requires Inv-loop μ-loop
 starts-of-requires c κs =
-    let c2 = c .before .before in
-    c2 .pre .few
+    c .before .before .pre .few
 
 loop-holds : tie.Need-loop-holds Inv-loop μ-loop
 loop-holds c =
@@ -32,8 +31,7 @@ windows-of-requires c κs =
     let c1 = c .before in
     let c2 = c1 .before in
     let c3 = c2 .before in
-    let c6 = c3 .before .before .before in
-    part-there (c6 .args .counts .now) (c6 .args .days .now) (c3 .starts-of .result) (c6 .pre) (c3 .starts-of .ensures) (c2 .loop .rank) (c1 .loop-test .taken)
+    part-there (c3 .before .before .before .pre) (c3 .starts-of .ensures) (c2 .loop .rank) (c1 .loop-test .taken)
 
 good-windows-requires : tie.Need-good-windows-requires Inv-loop μ-loop
 good-windows-requires c κs = search needs
@@ -46,11 +44,8 @@ returns c =
     let c5 = c4 .before in
     let c6 = c5 .before in
     let c9 = c6 .before .before .before in
-    let a = c9 .args in
-    let l = c5 .loop in
-    let h = c4 .loop-test .taken in
-    let is = misplaced-is (a .counts .now) (a .days .now) (c6 .starts-of .result) (c9 .pre) (c6 .starts-of .ensures) (l .rank) h _ _ (c2 .windows-of .ensures) (c1 .good-windows .ensures) in
-    any-ends (misplaced (a .counts .now) (a .days .now)) (length (a .counts .now)) (l .rank) h (is ∙ c .if1 .taken) ∙ l .inv .1
+    let is = misplaced-is (c9 .pre) (c6 .starts-of .ensures) (c5 .loop .rank) (c4 .loop-test .taken) (c2 .windows-of .ensures) (c1 .good-windows .ensures) in
+    any-ends (misplaced (c9 .args .counts .now) (c9 .args .days .now)) _ (c5 .loop .rank) (c4 .loop-test .taken) (is ∙ c .if1 .taken) ∙ c5 .loop .inv .1
 
 add-rank : tie.Need-add-rank Inv-loop μ-loop
 add-rank c = search needs
@@ -66,11 +61,8 @@ loop-again c =
     let c5 = c4 .before in
     let c6 = c5 .before in
     let c9 = c6 .before .before .before in
-    let a = c9 .args in
-    let l = c5 .loop in
-    let h = c4 .loop-test .taken in
-    let is = misplaced-is (a .counts .now) (a .days .now) (c6 .starts-of .result) (c9 .pre) (c6 .starts-of .ensures) (l .rank) h _ _ (c2 .windows-of .ensures) (c1 .good-windows .ensures) in
-    (omega arith, any-more (misplaced (a .counts .now) (a .days .now)) (length (a .counts .now)) (l .rank) h (is ∙ c .if1 .left) ∙ l .inv .1)
+    let is = misplaced-is (c9 .pre) (c6 .starts-of .ensures) (c5 .loop .rank) (c4 .loop-test .taken) (c2 .windows-of .ensures) (c1 .good-windows .ensures) in
+    (omega arith, any-more (misplaced (c9 .args .counts .now) (c9 .args .days .now)) _ (c5 .loop .rank) (c4 .loop-test .taken) (is ∙ c .if1 .left) ∙ c5 .loop .inv .1)
 
 returns-2 : tie.Need-returns-2 Inv-loop μ-loop
 returns-2 c =

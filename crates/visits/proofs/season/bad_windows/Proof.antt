@@ -21,8 +21,7 @@ returns : tie.Need-returns
 unfolding badWindows
 returns c =
     let c1 = c .before in
-    let c4 = c1 .before .before .before in
-    let a = c4 .args in
+    let a = c1 .before .before .before .args in
     simp (ne-eqb (length (a .counts .now)) (a .ranks) (λ e. c .if1 .taken (e ∙ sym (c1 .index .ensures))))
 
 any-from-requires : tie.Need-any-from-requires
@@ -32,8 +31,7 @@ returns-2 : tie.Need-returns-2
 unfolding badWindows
 returns-2 c =
     let c1 = c .before in
-    let c6 = c1 .before .before .before .before .before in
-    let many : any (ltb 32) (c6 .args .counts .now) ≡ true = sym (c1 .any-from .ensures) ∙ c .if2 .taken in
+    let many : any (ltb 32) (c1 .before .before .before .before .before .args .counts .now) ≡ true = sym (c1 .any-from .ensures) ∙ c .if2 .taken in
     simp (many, or-true)
 
 starts-of-requires : tie.Need-starts-of-requires
@@ -41,29 +39,25 @@ starts-of-requires c κs =
     let c1 = c .before in
     let c2 = c1 .before in
     let c3 = c2 .before in
-    let c6 = c3 .before .before .before in
-    record { ranks = omega (arith, c2 .if1 .left, c3 .index .ensures, c6 .pre); low = sym (c1 .any-from .ensures) ∙ c .if2 .left }
+    record { ranks = omega (arith, c2 .if1 .left, c3 .index .ensures, c3 .before .before .before .pre); low = sym (c1 .any-from .ensures) ∙ c .if2 .left }
 
 mul-if3 : tie.Need-mul-if3
 mul-if3 c =
     let c3 = c .before .before .before in
     let c4 = c3 .before in
-    let c7 = c4 .before .before .before in
-    omega (arith, c3 .if1 .left, c4 .index .ensures, c7 .pre)
+    omega (arith, c3 .if1 .left, c4 .index .ensures, c4 .before .before .before .pre)
 
 array-read-if3 : tie.Need-array-read-if3
 array-read-if3 c =
     let c3 = c .before .before .before in
     let c4 = c3 .before in
-    let c7 = c4 .before .before .before in
-    omega (arith, c3 .if1 .left, c4 .index .ensures, c7 .pre)
+    omega (arith, c3 .if1 .left, c4 .index .ensures, c4 .before .before .before .pre)
 
 returns-3 : tie.Need-returns-3
 unfolding badWindows
 returns-3 c =
     let c1 = c .before in
-    let c8 = c1 .before .before .before .before .before .before .before in
-    let a = c8 .args in
+    let a = c1 .before .before .before .before .before .before .before .args in
     let short = ne-eqb (length (a .days .now)) (2 * sum (a .counts .now)) (λ e. c .if3 .taken (e ∙ sym (c1 .starts-of .ensures .entry _ (omega arith) ∙ from-all (a .counts .now)))) in
     simp (short, or-true)
 
@@ -89,8 +83,7 @@ returns-4 c =
     let c4 = c3 .before in
     let c5 = c4 .before in
     let c6 = c5 .before in
-    let c9 = c6 .before .before .before in
-    let a = c9 .args in
+    let a = c6 .before .before .before .args in
     let size : length (a .counts .now) ≡ a .ranks = c5 .if1 .left ∙ c6 .index .ensures in
     let few : any (ltb 32) (a .counts .now) ≡ false = sym (c4 .any-from .ensures) ∙ c3 .if2 .left in
     let whole = c1 .if3 .left ∙ c2 .starts-of .ensures .entry _ (omega arith) ∙ from-all (a .counts .now) in

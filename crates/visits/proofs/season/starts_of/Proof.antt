@@ -18,18 +18,15 @@ abbrev μ-loop : tie.MeasureT-loop
 
 loop-holds : tie.Need-loop-holds Inv-loop μ-loop
 loop-holds c =
-    let c1 = c .before in
-    (omega arith, started-none (c1 .args .counts .now))
+    (omega arith, started-none (c .before .args .counts .now))
 
 mul-starts : tie.Need-mul-starts Inv-loop μ-loop
 mul-starts c =
-    let c3 = c .before .before .before in
-    omega (arith, c3 .pre .ranks)
+    omega (arith, c .before .before .before .pre .ranks)
 
 array-read-starts : tie.Need-array-read-starts Inv-loop μ-loop
 array-read-starts c =
-    let c3 = c .before .before .before in
-    omega (arith, c3 .pre .ranks)
+    omega (arith, c .before .before .before .pre .ranks)
 
 mul-index : tie.Need-mul-index Inv-loop μ-loop
 mul-index c = search needs
@@ -62,14 +59,12 @@ add-starts-2 c = search needs
 mul-starts-3 : tie.Need-mul-starts-3 Inv-loop μ-loop
 mul-starts-3 c =
     let c2 = c .before .before in
-    let c5 = c2 .before .before .before in
-    omega (arith, c5 .pre .ranks, c2 .loop-test .taken)
+    omega (arith, c2 .before .before .before .pre .ranks, c2 .loop-test .taken)
 
 array-write-starts : tie.Need-array-write-starts Inv-loop μ-loop
 array-write-starts c =
     let c2 = c .before .before in
-    let c5 = c2 .before .before .before in
-    omega (arith, c5 .pre .ranks, c2 .loop-test .taken)
+    omega (arith, c2 .before .before .before .pre .ranks, c2 .loop-test .taken)
 
 add-rank : tie.Need-add-rank Inv-loop μ-loop
 add-rank c = search needs
@@ -88,9 +83,8 @@ loop-again c =
 returns : tie.Need-returns Inv-loop μ-loop
 returns c =
     let c1 = c .before in
-    let c3 = c1 .before .before in
     let l = c1 .loop in
-    let e : l .rank ≡ length (c3 .args .counts .now) = omega (arith, l .inv .0, c .loop-test .left) in
+    let e : l .rank ≡ length (c1 .before .before .args .counts .now) = omega (arith, l .inv .0, c .loop-test .left) in
     rw e at (l .inv .1)
 
 pub starts-of-spec : {M : Type 1} → statement M

@@ -23,8 +23,7 @@ owned-counts-requires c κs = search needs
 
 starts-of-requires : tie.Need-starts-of-requires Inv-loop μ-loop
 starts-of-requires c κs =
-    let c4 = c .before .before .before .before in
-    c4 .pre .laid .few
+    c .before .before .before .before .pre .laid .few
 
 loop-holds : tie.Need-loop-holds Inv-loop μ-loop
 loop-holds c =
@@ -36,28 +35,24 @@ windows-of-requires c κs =
     let c1 = c .before in
     let c2 = c1 .before in
     let c3 = c2 .before in
-    let c8 = c3 .before .before .before .before .before in
-    part-there (c8 .args .counts .now) (c8 .args .days .now) (c3 .starts-of .result) (c8 .pre .laid) (c3 .starts-of .ensures) (c2 .loop .rank) (c1 .loop-test .taken)
+    part-there (c3 .before .before .before .before .before .pre .laid) (c3 .starts-of .ensures) (c2 .loop .rank) (c1 .loop-test .taken)
 
 count-days-requires : tie.Need-count-days-requires Inv-loop μ-loop
 count-days-requires c κs =
     let c2 = c .before .before in
     let c3 = c2 .before in
     let c4 = c3 .before in
-    let c9 = c4 .before .before .before .before .before in
-    rw (c .windows-of .ensures) (part-few (c9 .args .counts .now) (c9 .args .days .now) (c4 .starts-of .result) (c9 .pre .laid) (c4 .starts-of .ensures) (c3 .loop .rank) (c2 .loop-test .taken))
+    rw (c .windows-of .ensures) (part-few (c4 .before .before .before .before .before .pre .laid) (c4 .starts-of .ensures) (c3 .loop .rank) (c2 .loop-test .taken))
 
 mul-if1 : tie.Need-mul-if1 Inv-loop μ-loop
 mul-if1 c =
     let c3 = c .before .before .before in
-    let c10 = c3 .before .before .before .before .before .before .before in
-    omega (arith, c10 .pre .laid .few .ranks, c3 .loop-test .taken)
+    omega (arith, c3 .before .before .before .before .before .before .before .pre .laid .few .ranks, c3 .loop-test .taken)
 
 array-read-if1 : tie.Need-array-read-if1 Inv-loop μ-loop
 array-read-if1 c =
     let c3 = c .before .before .before in
-    let c10 = c3 .before .before .before .before .before .before .before in
-    omega (arith, c10 .pre .laid .few .ranks, c3 .loop-test .taken)
+    omega (arith, c3 .before .before .before .before .before .before .before .pre .laid .few .ranks, c3 .loop-test .taken)
 
 returns : tie.Need-returns Inv-loop μ-loop
 unfolding tooFewDays
@@ -69,11 +64,8 @@ returns c =
     let c6 = c5 .before in
     let c7 = c6 .before in
     let c11 = c7 .before .before .before .before in
-    let a = c11 .args in
-    let l = c5 .loop in
-    let h = c4 .loop-test .taken in
-    let is = lacks-is (a .counts .now) (a .days .now) (c6 .starts-of .result) (c11 .pre) (c6 .starts-of .ensures) (l .rank) h (a .owners .now) _ _ _ (c2 .windows-of .ensures) (c1 .count-days .ensures) (c7 .owned-counts .ensures) in
-    any-ends (lacksDays (a .owners .now) (a .counts .now) (a .days .now)) (length (a .counts .now)) (l .rank) h (is ∙ lt-ltb (c1 .count-days .result) _ (omega (arith, c .if1 .taken))) ∙ l .inv .1
+    let is = lacks-is (c11 .pre) (c6 .starts-of .ensures) (c5 .loop .rank) (c4 .loop-test .taken) (c11 .args .owners .now) (c2 .windows-of .ensures) (c1 .count-days .ensures) (c7 .owned-counts .ensures) in
+    any-ends (lacksDays (c11 .args .owners .now) (c11 .args .counts .now) (c11 .args .days .now)) _ (c5 .loop .rank) (c4 .loop-test .taken) (is ∙ lt-ltb (c1 .count-days .result) _ (omega (arith, c .if1 .taken))) ∙ c5 .loop .inv .1
 
 add-rank : tie.Need-add-rank Inv-loop μ-loop
 add-rank c = search needs
@@ -90,18 +82,14 @@ loop-again c =
     let c6 = c5 .before in
     let c7 = c6 .before in
     let c11 = c7 .before .before .before .before in
-    let a = c11 .args in
-    let l = c5 .loop in
-    let h = c4 .loop-test .taken in
-    let is = lacks-is (a .counts .now) (a .days .now) (c6 .starts-of .result) (c11 .pre) (c6 .starts-of .ensures) (l .rank) h (a .owners .now) _ _ _ (c2 .windows-of .ensures) (c1 .count-days .ensures) (c7 .owned-counts .ensures) in
-    (omega arith, any-more (lacksDays (a .owners .now) (a .counts .now) (a .days .now)) (length (a .counts .now)) (l .rank) h (is ∙ le-ltb (c1 .count-days .result) _ (omega (arith, c .if1 .left))) ∙ l .inv .1)
+    let is = lacks-is (c11 .pre) (c6 .starts-of .ensures) (c5 .loop .rank) (c4 .loop-test .taken) (c11 .args .owners .now) (c2 .windows-of .ensures) (c1 .count-days .ensures) (c7 .owned-counts .ensures) in
+    (omega arith, any-more (lacksDays (c11 .args .owners .now) (c11 .args .counts .now) (c11 .args .days .now)) _ (c5 .loop .rank) (c4 .loop-test .taken) (is ∙ le-ltb (c1 .count-days .result) _ (omega (arith, c .if1 .left))) ∙ c5 .loop .inv .1)
 
 returns-2 : tie.Need-returns-2 Inv-loop μ-loop
 unfolding tooFewDays
 returns-2 c =
     let c1 = c .before in
-    let c7 = c1 .before .before .before .before .before .before in
-    let a = c7 .args in
+    let a = c1 .before .before .before .before .before .before .args in
     let l = c1 .loop in
     any-done (lacksDays (a .owners .now) (a .counts .now) (a .days .now)) (length (a .counts .now)) (l .rank) (c .loop-test .left) ∙ l .inv .1
 

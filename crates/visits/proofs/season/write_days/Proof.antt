@@ -22,8 +22,7 @@ abbrev μ-loop : tie.MeasureT-loop
 
 starts-of-requires : tie.Need-starts-of-requires Inv-loop μ-loop
 starts-of-requires c κs =
-    let c4 = c .before .before .before .before in
-    c4 .pre .good .laid .few
+    c .before .before .before .before .pre .good .laid .few
 
 loop-holds : tie.Need-loop-holds Inv-loop μ-loop
 loop-holds c = (omega arith, refl, sym (owned-counts-none 256), refl)
@@ -60,7 +59,7 @@ windows-of-requires c κs =
     let c10 = c5 .before .before .before .before .before in
     let a = c10 .args in
     let there = owner-there (a .owners .now) (a .counts .now) (a .days .now) _ (c10 .pre) (c4 .loop .v) (c3 .loop-test .taken) .0 in
-    rw (c1 .index .ensures) (part-there (a .counts .now) (a .days .now) (c5 .starts-of .result) (c10 .pre .good .laid) (c5 .starts-of .ensures) _ there)
+    rw (c1 .index .ensures) (part-there (c10 .pre .good .laid) (c5 .starts-of .ensures) _ there)
 
 day-at-requires : tie.Need-day-at-requires Inv-loop μ-loop
 day-at-requires c κs = search needs
@@ -72,16 +71,14 @@ slice-write-visits : tie.Need-slice-write-visits Inv-loop μ-loop
 slice-write-visits c =
     let c5 = c .before .before .before .before .before in
     let c6 = c5 .before in
-    let c12 = c6 .before .before .before .before .before .before in
-    omega (arith, c6 .loop .inv .1, c5 .loop-test .taken, c12 .pre .roomy)
+    omega (arith, c6 .loop .inv .1, c5 .loop-test .taken, c6 .before .before .before .before .before .before .pre .roomy)
 
 add-met : tie.Need-add-met Inv-loop μ-loop
 add-met c =
     let c3 = c .before .before .before in
     let c6 = c3 .before .before .before in
-    let c12 = c6 .before .before .before .before .before .before in
     let l = c6 .loop in
-    record { fits = omega (arith, owned-counts-few (c12 .args .owners .now) (l .v) 256 (c3 .index .result), ap (λ m. at m (c3 .index .result)) (l .inv .2), l .inv .0) }
+    record { fits = omega (arith, owned-counts-few (c6 .before .before .before .before .before .before .args .owners .now) (l .v) 256 (c3 .index .result), ap (λ m. at m (c3 .index .result)) (l .inv .2), l .inv .0) }
 
 mul-met : tie.Need-mul-met Inv-loop μ-loop
 mul-met c =
@@ -119,7 +116,7 @@ loop-again c =
     let o = at (a .owners .now) (l .v) in
     let there = owner-there (a .owners .now) (a .counts .now) (a .days .now) _ (c12 .pre) (l .v) h in
     let day : c .day-at .result ≡ at (openDays (windowsOf (a .counts .now) (a .days .now) o)) (at (l .met) o) =
-    c .day-at .ensures ∙ rw (c3 .index .ensures) (ap (λ ds. at ds (at (l .met) o)) (part-days (a .counts .now) (a .days .now) (c7 .starts-of .result) (c12 .pre .good) (c7 .starts-of .ensures) o (there .0) _ (c1 .windows-of .ensures ∙ rw (c3 .index .ensures)))) in (
+    c .day-at .ensures ∙ rw (c3 .index .ensures) (ap (λ ds. at ds (at (l .met) o)) (part-days (c12 .pre .good) (c7 .starts-of .ensures) o (there .0) _ (c1 .windows-of .ensures ∙ rw (c3 .index .ensures)))) in (
       omega arith,
       length-set (l .visits) (l .v) (c .day-at .result) ∙ l .inv .1,
       rw (c3 .index .ensures, l .inv .2) (owned-counts-more (a .owners .now) (l .v) 256 h),
@@ -128,16 +125,14 @@ loop-again c =
 
 same-length : tie.Need-same-length Inv-loop μ-loop
 same-length c =
-    let c1 = c .before in
-    c1 .loop .inv .1
+    c .before .loop .inv .1
 
 returns : tie.Need-returns Inv-loop μ-loop
 unfolding visitDays
 returns c =
     let c1 = c .before in
-    let c7 = c1 .before .before .before .before .before .before in
     let l = c1 .loop in
-    let e : l .v ≡ length (c7 .args .owners .now) = omega (arith, c .loop-test .left, l .inv .0) in
+    let e : l .v ≡ length (c1 .before .before .before .before .before .before .args .owners .now) = omega (arith, c .loop-test .left, l .inv .0) in
     rw e at (l .inv .3)
 
 pub write-days-spec : {M : Type 1} → statement M

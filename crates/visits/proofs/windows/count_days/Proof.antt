@@ -4,7 +4,6 @@ use mathlib.Core.Path.{_≡_, ap}
 use native.Mathlib.Omega.{arith}
 use lib.ListN.{length, drop}
 use borrow.Author.Needs.{needs}
-use Rattle.links.specs.Lists.{at}
 use Rattle.visits.specs.Season.{windowsIn}
 use Rattle.visits.specs.SeasonCode.{spanned}
 use Rattle.visits.proofs.WindowLaws.{windows-done, count-more}
@@ -23,27 +22,6 @@ loop-holds c = (omega arith, omega arith, omega arith)
 add-loop : tie.Need-add-loop Inv-loop μ-loop
 add-loop c = search needs
 
-mul-wide : tie.Need-mul-wide Inv-loop μ-loop
-mul-wide c = search needs
-
-shared-slice-read-wide : tie.Need-shared-slice-read-wide Inv-loop μ-loop
-shared-slice-read-wide c = search needs
-
-wide-requires : tie.Need-wide-requires Inv-loop μ-loop
-wide-requires c κs = search needs
-
-add-wide : tie.Need-add-wide Inv-loop μ-loop
-add-wide c = search needs
-
-mul-wide-2 : tie.Need-mul-wide-2 Inv-loop μ-loop
-mul-wide-2 c = search needs
-
-shared-slice-read-wide-2 : tie.Need-shared-slice-read-wide-2 Inv-loop μ-loop
-shared-slice-read-wide-2 c = search needs
-
-wide-requires-2 : tie.Need-wide-requires-2 Inv-loop μ-loop
-wide-requires-2 c κs = search needs
-
 width-requires : tie.Need-width-requires Inv-loop μ-loop
 width-requires c κs = search needs
 
@@ -52,11 +30,7 @@ add-count c =
     let c1 = c .before in
     let c2 = c1 .before in
     let c3 = c2 .before in
-    let c5 = c3 .before .before in
-    let c6 = c5 .before in
-    let c8 = c6 .before .before in
-    let l = c6 .loop in
-    record { fits = omega (arith, c3 .wide .ensures, c1 .wide2 .ensures, c .width .ensures, l .inv .2, c5 .loop-test .taken, c8 .pre, c2 .shared-slice-known3 .given (l .i + 1)) }
+    record { fits = omega (arith, c .width .ensures, c2 .loop .inv .2, c1 .loop-test .taken, c3 .before .pre, c3 .shared-slice-known .given (c2 .loop .i + 1)) }
 
 add-i : tie.Need-add-i Inv-loop μ-loop
 add-i c = search needs
@@ -69,21 +43,17 @@ loop-again c =
     let c1 = c .before in
     let c2 = c1 .before in
     let c3 = c2 .before in
-    let c5 = c3 .before .before in
-    let c6 = c5 .before in
-    let c8 = c6 .before .before in
-    let ws = c8 .args .windows .now in
-    let l = c6 .loop in
-    let wide : c .width .result ≡ at ws (l .i + 1) - at ws (l .i) = omega (arith, c3 .wide .ensures, c1 .wide2 .ensures, c .width .ensures) in
-    (omega arith, omega (arith, wide, count-more ws (l .i) (c5 .loop-test .taken), l .inv .1), omega (arith, wide, l .inv .2, c2 .shared-slice-known3 .given (l .i + 1)))
+    let l = c2 .loop in (
+      omega arith,
+      omega (arith, c .width .ensures, count-more (c3 .before .args .windows .now) (l .i) (c1 .loop-test .taken), l .inv .1),
+      omega (arith, c .width .ensures, l .inv .2, c3 .shared-slice-known .given (l .i + 1)),
+    )
 
 returns : tie.Need-returns Inv-loop μ-loop
 returns c =
     let c1 = c .before in
-    let c3 = c1 .before .before in
-    let ws = c3 .args .windows .now in
     let l = c1 .loop in
-    omega (arith, ap (λ ds. length (spanned ds)) (windows-done ws (l .i) (omega arith)), l .inv .1)
+    omega (arith, ap (λ ds. length (spanned ds)) (windows-done (c1 .before .before .args .windows .now) (l .i) (omega arith)), l .inv .1)
 
 pub count-days-spec : {M : Type 1} → statement M
 count-days-spec =
@@ -93,13 +63,6 @@ count-days-spec =
     μ-loop
     loop-holds
     add-loop
-    mul-wide
-    shared-slice-read-wide
-    wide-requires
-    add-wide
-    mul-wide-2
-    shared-slice-read-wide-2
-    wide-requires-2
     width-requires
     add-count
     add-i

@@ -15,16 +15,14 @@ returns-2 : tie.Need-returns-2
 unfolding goodWindow
 returns-2 c =
     let c1 = c .before in
-    let c2 = c1 .before in
-    let a = c2 .args in
+    let a = c1 .before .args in
     simp (le-leb (a .before) (a .first) (omega (arith, c1 .if1 .left)), le-ltb (a .first) (a .end) (omega (arith, c .if2 .taken)))
 
 returns-3 : tie.Need-returns-3
 unfolding goodWindow
 returns-3 c =
     let c1 = c .before in
-    let c2 = c1 .before in
-    let a = c2 .args in
+    let a = c1 .before .args in
     simp (le-leb (a .before) (a .first) (omega (arith, c1 .if1 .left)), lt-ltb (a .first) (a .end) (omega (arith, c .if2 .left)))
 
 pub good-window-spec : {M : Type 1} → statement M

@@ -47,8 +47,7 @@ returns c =
     let c1 = c .before in
     let c4 = c1 .before .before .before in
     let c5 = c4 .before in
-    let c7 = c5 .before .before in
-    let ws = c7 .args .windows .now in
+    let ws = c5 .before .before .args .windows .now in
     let i = c5 .loop .i in
     let bad : goodWindow (c5 .loop .before) (at ws i) (at ws (i + 1)) ≡ false = sym (c1 .good-window .ensures) ∙ not-true _ (c .if1 .taken) in
     sym (good-more ws i (c4 .loop-test .taken) (c5 .loop .before) ∙ rw bad) ∙ c5 .loop .inv .1
@@ -64,8 +63,7 @@ loop-again c =
     let c1 = c .before in
     let c4 = c1 .before .before .before in
     let c5 = c4 .before in
-    let c7 = c5 .before .before in
-    let ws = c7 .args .windows .now in
+    let ws = c5 .before .before .args .windows .now in
     let i = c5 .loop .i in
     let good : goodWindow (c5 .loop .before) (at ws i) (at ws (i + 1)) ≡ true = sym (c1 .good-window .ensures) ∙ not-false _ (c .if1 .left) in
     (omega arith, sym (good-more ws i (c4 .loop-test .taken) (c5 .loop .before) ∙ rw good) ∙ c5 .loop .inv .1)
@@ -74,8 +72,7 @@ returns-2 : tie.Need-returns-2 Inv-loop μ-loop
 unfolding goodFrom
 returns-2 c =
     let c1 = c .before in
-    let c3 = c1 .before .before in
-    ap (goodFrom (c1 .loop .before)) (sym (windows-done (c3 .args .windows .now) (c1 .loop .i) (omega arith))) ∙ c1 .loop .inv .1
+    ap (goodFrom (c1 .loop .before)) (sym (windows-done (c1 .before .before .args .windows .now) (c1 .loop .i) (omega arith))) ∙ c1 .loop .inv .1
 
 pub good-windows-spec : {M : Type 1} → statement M
 good-windows-spec =
