@@ -1,5 +1,5 @@
 -- Laws of tests and of the functions on lists that the rules are written with. Assumes nothing.
-use Prim.Native.Nat.{ℕ, zero, suc, _+_, _-_, _*_, _≤_, _<_}
+use Prim.Native.Nat.{ℕ, zero, suc, _+_, _-_, _*_, _≤_, _<_, max}
 use mathlib.Core.Path.{_≡_, refl, sym, ap, _∙_, subst}
 use mathlib.Core.Bool.{Bool, true, false, not, _&&_, _||_, cond, true≢false, false≢true}
 use mathlib.Core.List.{List, [], _∷_, _++_, map, nil≢cons, head-eq-of-cons-eq, tail-eq-of-cons-eq}
@@ -11,7 +11,7 @@ use lib.ListN.{length, getD, set, take, drop, replicate}
 use lib.Seq.{take-suc, drop-cons, split-at}
 use lib.Dec.{eqb, ltb, leb}
 use borrow.Author.Tests.{eq-eqb, ne-eqb, eqb-true, eqb-false, lt-ltb, le-ltb, ltb-true, ltb-false, lt-leb, le-leb, leb-true}
-use Rattle.links.specs.Lists.{at, All, above, between, filter, any, all, foldl, best, bestFrom, insert, sortBy, range, sum, concatMap, elem}
+use Rattle.links.specs.Lists.{at, All, above, greatest, between, filter, any, all, foldl, best, bestFrom, insert, sortBy, range, sum, concatMap, elem}
 
 -- by cases on a test, with the equation at hand
 pub split {ℓ} : {A : Type ℓ} (b : Bool) → (b ≡ true → A) → (b ≡ false → A) → A
@@ -446,6 +446,17 @@ total-point i (suc n) v f h k = split (eqb i v)
     (λ p. let d = eqb-false i v p in
     rw (p, total-point (suc i) n v f (omega arith) (omega arith)) (omega arith))
 
+-- what is left of a sum, as a loop meets it
+pub total-left : (f : ℕ → ℕ) (v n : ℕ) → v < n → total v (n - v) f ≡ f v + total (v + 1) (n - (v + 1)) f
+unfolding total
+total-left f v n h =
+    let e : n - v ≡ suc (n - (v + 1)) = omega arith in
+    rw (e, add-one)
+
+pub total-done : (f : ℕ → ℕ) (v n : ℕ) → n ≤ v → total v (n - v) f ≡ 0
+unfolding total
+total-done f v n h = let e : n - v ≡ 0 = omega arith in rw e
+
 pub sum-total : (f : ℕ → ℕ) (i n : ℕ) → sum (map f (range i n)) ≡ total i n f
 unfolding total
 sum-total f i zero = refl
@@ -561,3 +572,22 @@ module _ (xs : List ℕ) (i : ℕ) (h : i < length xs) where
 
 pub elem-take : (x : ℕ) (xs : List ℕ) (i : ℕ) → i < length xs → elem x (take (i + 1) xs) ≡ (elem x (take i xs) || eqb x (getD xs i 0))
 elem-take x xs i h = rw (add-one, take-suc xs i 0) (elem-append x (take i xs) (getD xs i 0 ∷ []) ∙ split (eqb x (getD xs i 0)) (λ p. rw p) (λ p. rw p))
+
+-- ---- the greatest
+
+pub greatest-bounds : (f : ℕ → ℕ) (xs : List ℕ) → All (λ x. f x ≤ greatest (map f xs)) xs
+greatest-bounds f [] = tt
+greatest-bounds f (x ∷ xs) =
+    (omega arith, all-to (λ y. f y ≤ greatest (map f xs)) (λ y. f y ≤ max (f x) (greatest (map f xs))) (λ y h. omega arith) xs (greatest-bounds f xs))
+
+pub greatest-least : (f : ℕ → ℕ) (xs : List ℕ) (m : ℕ) → ((a : ℕ) → a < length xs → f (at xs a) ≤ m) → greatest (map f xs) ≤ m
+greatest-least f [] m h = omega arith
+greatest-least f (x ∷ xs) m h = omega (arith, h 0 (omega arith), greatest-least f xs m (λ a k. h (suc a) (omega arith)))
+
+pub greatest-is
+    : (f : ℕ → ℕ) (xs : List ℕ) (m p : ℕ)
+    → ((a : ℕ) → a < length xs → f (at xs a) ≤ m)
+    → p < length xs
+    → f (at xs p) ≡ m
+    → greatest (map f xs) ≡ m
+greatest-is f xs m p h k e = omega (arith, greatest-least f xs m h, all-getD xs p 0 k (λ x. f x ≤ greatest (map f xs)) (greatest-bounds f xs), e)

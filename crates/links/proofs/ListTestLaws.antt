@@ -1,5 +1,5 @@
--- Laws of the list test: a test that is made place by place is the definition's, and the rounds over the rows are together cause 4's test.
--- Assumes nothing.
+-- Laws of the list test: a test that is made place by place is the definition's, and the rounds over the rows are together cause 4's test; and what a
+-- site is that passes it within the limits. Assumes nothing.
 use Prim.Native.Nat.{ℕ, suc, _+_, _≤_, _<_}
 use mathlib.Core.Path.{_≡_, refl, sym, ap, _∙_}
 use mathlib.Core.Bool.{Bool, true, false, not, _&&_, _||_, cond, false≢true}
@@ -10,12 +10,12 @@ use native.Mathlib.Numerals.{add-one}
 use lib.Dec.{leb, ltb, eqb}
 use lib.ListN.{length, drop, drop-of-length-le}
 use lib.Seq.{drop-cons}
-use borrow.Author.Tests.{leb-true, le-leb, lt-leb, ltb-true, ltb-false, lt-ltb, ne-eqb}
+use borrow.Author.Tests.{leb-true, le-leb, lt-leb, ltb-true, ltb-false, lt-ltb, le-ltb, ne-eqb}
 use Rattle.links.specs.Lists.{at, all, range, elem}
-use Rattle.links.specs.Graph.{row, vertexCount, neighborsOf, rowsOf, strictlyRising, neverFalling, goodRow, badOffsets, badLists, listsCause, ListsTested}
+use Rattle.links.specs.Graph.{row, vertexCount, neighborsOf, rowsOf, strictlyRising, neverFalling, goodRow, badOffsets, badLists, listsCause, siteCause, SoundLists, ListsTested}
 use Rattle.links.specs.ListTest.{validRow, validRows, mirroredRow, mirroredRows, Rising}
 use Rattle.links.proofs.CauseLaws.{cause-holds, cause-fails}
-use Rattle.links.proofs.ListLaws.{split, and-l, all-of, all-in, elem-range, and-false}
+use Rattle.links.proofs.ListLaws.{split, or-l, or-r, and-l, all-of, all-in, elem-range, and-false}
 use Rattle.links.proofs.RangeLaws.{range-at}
 use Rattle.links.proofs.ApartLaws.{apart, strict-apart, never-apart}
 use Rattle.links.proofs.SoundLaws.{sound-lists}
@@ -183,3 +183,25 @@ module _ (o l : List ℕ) where
   unfolding listsCause
   tested true e = record { cause = rw e; sound = λ z. absurd (omega arith) }
   tested false e = record { cause = rw e; sound = λ z. sound-lists o l e }
+
+  -- ---- the tests of the site
+
+  pub site-large : (ltb 16384 (vertexCount o) || ltb 131072 (length l)) ≡ true → 3 ≡ siteCause o l
+  unfolding siteCause
+  site-large e = rw e
+
+  pub site-lists : vertexCount o ≤ 16384 → length l ≤ 131072 → listsCause o l ≡ siteCause o l
+  unfolding siteCause
+  site-lists n m = rw (le-ltb 16384 (vertexCount o) n, le-ltb 131072 (length l) m)
+
+  -- what a site is that passes
+  pub site-passed : siteCause o l ≡ 0 → SoundLists o l × (vertexCount o ≤ 16384) × (length l ≤ 131072)
+  unfolding siteCause
+  site-passed z = split (ltb 16384 (vertexCount o) || ltb 131072 (length l))
+      (λ p. let x : _≡_ {A = ℕ} 3 0 = rw p at z in absurd (omega arith))
+      (λ p.
+      let fine : listsCause o l ≡ 0 = rw p at z in (
+        sound-lists o l (lists-fine 0 (sym fine) refl),
+        ltb-false 16384 (vertexCount o) (or-l (ltb 16384 (vertexCount o)) (ltb 131072 (length l)) p),
+        ltb-false 131072 (length l) (or-r (ltb 16384 (vertexCount o)) (ltb 131072 (length l)) p),
+      ))

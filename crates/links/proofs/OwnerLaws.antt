@@ -6,7 +6,7 @@ use mathlib.Core.List.{List, [], _∷_}
 use native.Mathlib.Omega.{arith}
 use native.Mathlib.Numerals.{add-one}
 use lib.ListN.{length, take, drop, set, replicate, length-set, length-take, length-replicate, getD-replicate, List·getD-eq-default}
-use lib.Seq.{take-suc, take-length, take-add, ext-getD, getD-set-same, getD-set-other}
+use lib.Seq.{take-suc, take-length, take-add, getD-set-same, getD-set-other}
 use lib.Dec.{leb, ltb, eqb}
 use borrow.Author.Tests.{eq-eqb, ne-eqb, ltb-true, ltb-false, leb-false, eqb-true, eqb-false}
 use Rattle.links.specs.Lists.{at, unassigned, any, elem, range, All}
@@ -15,8 +15,9 @@ use Rattle.links.specs.Graph.{owned}
 use Rattle.links.specs.declared.owners.Assignment.{Assignment}
 use Rattle.links.specs.declared.owners.Assignment.the-variants.{Valid, Refused}
 use Rattle.links.specs.Owners.{badRanks, tooMany, countsCause, strayOwner, emptyRank, fromOwners, assignmentNumber, AssignmentTold, Marked}
-use Rattle.links.proofs.ListLaws.{split, or-r, or-true, or-false, tally, count, count-cons, count-length, count-append, count-all, count-apart, all-to, to-all, any-ext, any-none, total, counted-below, counted, count-drop, none-counts, all-getD, elem-take}
-use Rattle.links.proofs.PartLaws.{length-table, getD-table}
+use Rattle.links.proofs.ListLaws.{split, or-l, or-r, or-true, or-false, tally, count, count-cons, count-length, count-append, count-all, count-apart, all-to, to-all, any-ext, any-none, total, counted-below, counted, count-drop, none-counts, all-getD, elem-take}
+use Rattle.links.proofs.RangeLaws.{none-passes}
+use Rattle.links.proofs.PartLaws.{length-table, getD-table, table-zero, table-add}
 
 module _ (owners : List ℕ) (i : ℕ) (h : i < length owners) where
   pub owned-drop : (r : ℕ) → owned (drop i owners) r ≡ tally (eqb r (at owners i)) + owned (drop (i + 1) owners) r
@@ -86,24 +87,34 @@ counts-limit k n e = split (badRanks k n)
 pub stray-refused : (k : ℕ) (owners : List ℕ) → countsCause k (length owners) ≡ 0 → strayOwner k owners ≡ true → 12 ≡ fromOwners k owners
 stray-refused k owners e s = rw s at (counts-passed k owners e)
 
--- what a list is that passes: so few ranks, and each owner one of them; and no refusal has a number above 12
+-- what a list is that passes: some ranks, few, no more than owners, each owner one of them, and none of them empty; and no refusal has a number above 12
 pub record Assigned (k : ℕ) (owners : List ℕ) : Type 0 where
+  pub some : 1 ≤ k
+  pub enough : k ≤ length owners
   pub few : k ≤ 256
   pub ranked : All (λ x. x < k) owners
+  pub filled : (r : ℕ) → r < k → 1 ≤ owned owners r
 
 pub assigned : (k : ℕ) (owners : List ℕ) → fromOwners k owners ≡ 0 → Assigned k owners
-unfolding fromOwners tooMany strayOwner
-assigned k owners z = split (badRanks k (length owners))
+unfolding fromOwners badRanks tooMany strayOwner emptyRank
+assigned k owners z = split (eqb k 0 || eqb k unassigned || ltb (length owners) k || eqb (length owners) 0)
     (λ p. let x : _≡_ {A = ℕ} 2 0 = rw p at z in absurd (omega arith))
     (λ p. split (ltb 16384 (length owners) || ltb 256 k)
     (λ q. let x : _≡_ {A = ℕ} 3 0 = rw (p, q) at z in absurd (omega arith))
     (λ q. split (any (leb k) owners)
     (λ r. let x : _≡_ {A = ℕ} 12 0 = rw (p, q, r) at z in absurd (omega arith))
-    (λ r.
+    (λ r. split (any (λ x. eqb (owned owners x) 0) (range 0 k))
+    (λ s. let x : _≡_ {A = ℕ} 9 0 = rw (p, q, r, s) at z in absurd (omega arith))
+    (λ s.
+    let enough = or-l (eqb k 0 || eqb k unassigned || ltb (length owners) k) (eqb (length owners) 0) p in
+    let none = eqb-false k 0 (or-l (eqb k 0) (eqb k unassigned) (or-l (eqb k 0 || eqb k unassigned) (ltb (length owners) k) enough)) in
     record {
+      some = omega arith;
+      enough = ltb-false (length owners) k (or-r (eqb k 0 || eqb k unassigned) (ltb (length owners) k) enough);
       few = ltb-false 256 k (or-r (ltb 16384 (length owners)) (ltb 256 k) q);
       ranked = all-to (λ x. leb k x ≡ false) (λ x. x < k) (λ x e. leb-false k x e) owners (any-none (leb k) owners r);
-    })))
+      filled = λ x h. let e = eqb-false (owned owners x) 0 (none-passes (λ y. eqb (owned owners y) 0) k s x h) in omega arith;
+    }))))
 
 pub owners-numbers : (k : ℕ) (owners : List ℕ) → fromOwners k owners ≤ 12
 unfolding fromOwners
@@ -136,8 +147,7 @@ marks-decide k owners marks i b e s m h t =
 
 pub owned-counts-none : (n : ℕ) → table (owned []) n ≡ replicate n 0
 unfolding owned
-owned-counts-none n = ext-getD 0 (table (owned []) n) (replicate n 0) (length-table (owned []) n ∙ sym (length-replicate n 0))
-    (λ r h. let l = length-table (owned []) n in getD-table (owned []) n r (omega arith) ∙ sym (getD-replicate n r 0 0 (omega arith)))
+owned-counts-none n = table-zero (owned []) n (λ r h. refl)
 
 module _ (owners : List ℕ) (v n : ℕ) where
   abbrev counts : List ℕ
@@ -152,25 +162,7 @@ module _ (owners : List ℕ) (v n : ℕ) where
   -- the owner of v has one more
   pub owned-counts-more : v < length owners → set (table (owned (take v owners)) n) (at owners v) (at (table (owned (take v owners)) n) (at owners v) + 1)
       ≡ table (owned (take (v + 1) owners)) n
-  owned-counts-more h = ext-getD 0 (set counts o (at counts o + 1)) after (length-set counts o (at counts o + 1) ∙ sized ∙ sym (length-table (owned (take (v + 1) owners)) n))
-      (λ r l. each r (rw (length-set counts o (at counts o + 1) ∙ sized) at l))
-    where
-      o : ℕ
-      o = at owners v
-
-      after : List ℕ
-      after = table (owned (take (v + 1) owners)) n
-
-      each : (r : ℕ) → r < n → at (set counts o (at counts o + 1)) r ≡ at after r
-      each r l =
-          let more = owned-take owners v h r in
-          let there = getD-table (owned (take (v + 1) owners)) n r l in
-          split (eqb r o)
-          (λ p.
-          let e : r ≡ o = eqb-true r o p in
-          let same : at (set counts o (at counts o + 1)) r ≡ at counts o + 1 = rw e (getD-set-same counts o (at counts o + 1) 0 (omega (arith, sized))) in
-          omega (arith, same, ap (at counts) e, entry r l, rw p at more, there))
-          (λ p. getD-set-other counts o r (at counts o + 1) 0 (eqb-false r o p) ∙ entry r l ∙ sym (there ∙ rw p at more ∙ omega arith))
+  owned-counts-more h = table-add (owned (take v owners)) (owned (take (v + 1) owners)) n (at owners v) 1 (λ r l. owned-take owners v h r)
 
   -- no more than are counted
   pub owned-counts-few : (r : ℕ) → at (table (owned (take v owners)) n) r ≤ v

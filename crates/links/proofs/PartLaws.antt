@@ -2,15 +2,16 @@
 -- Assumes nothing.
 use Prim.Native.Nat.{ℕ, zero, suc, _+_, _-_, _≤_, _<_, min}
 use mathlib.Core.Path.{_≡_, refl, sym, ap, _∙_}
+use mathlib.Core.Bool.{cond}
 use mathlib.Core.List.{List, [], _∷_, _++_, append-assoc, append-nil}
 use mathlib.Core.Logic.{⊎-elim}
 use native.Mathlib.Omega.{arith}
 use native.Mathlib.Nat.{eq-or-lt-of-le, le-of-suc-le-suc}
 use native.Mathlib.Numerals.{add-one}
-use lib.Dec.{leb}
+use lib.Dec.{leb, eqb}
 use lib.ListN.{length, getD, take, drop, set, length-append, replicate, length-replicate, getD-replicate, length-take, length-drop, length-set, take-append-drop, drop-of-length-le, List·getD-append}
-use lib.Seq.{take-suc-set, getD-set-other, take-at, drop-at, length-take-le, getD-take, getD-drop, drop-set-add, take-set-lt, set-at, drop-cons, getD-append-add, ext-getD, drop-set-lt, take-set-le, getD-at, drop-length, take-suc, take-all, drop-nil}
-use borrow.Author.Tests.{leb-true, leb-false}
+use lib.Seq.{take-suc-set, getD-set-same, getD-set-other, take-at, drop-at, length-take-le, getD-take, getD-drop, drop-set-add, take-set-lt, set-at, drop-cons, getD-append-add, ext-getD, drop-set-lt, take-set-le, getD-at, drop-length, take-suc, take-all, drop-nil}
+use borrow.Author.Tests.{leb-true, leb-false, eqb-true, eqb-false}
 use Rattle.links.specs.Lists.{at}
 use Rattle.links.specs.Parts.{part, putBack, copied, filledPart, copiedPart, table, Kept}
 use Rattle.links.proofs.ListLaws.{split}
@@ -151,6 +152,25 @@ getD-table f (suc n) i h =
     (λ q. ap (λ (k : ℕ). getD (table f n ++ (f n ∷ [])) k 0) q ∙ getD-at (table f n) (f n) [] 0 n (length-table f n) ∙ ap f (sym q))
     (λ m. List·getD-append (table f n) (f n ∷ []) 0 i (rw (length-table f n) m) ∙ getD-table f n i m)
     (eq-or-lt-of-le (le-of-suc-le-suc h))
+
+pub table-zero : (f : ℕ → ℕ) (n : ℕ) → ((i : ℕ) → i < n → f i ≡ 0) → table f n ≡ replicate n 0
+table-zero f n h = ext-getD 0 (table f n) (replicate n 0) (length-table f n ∙ sym (length-replicate n 0))
+    (λ i l. let k = length-table f n in getD-table f n i (omega arith) ∙ h i (omega arith) ∙ sym (getD-replicate n i 0 0 (omega arith)))
+
+-- a loop that adds x at one place
+pub table-add : (f g : ℕ → ℕ) (n o x : ℕ) → ((i : ℕ) → i < n → g i ≡ f i + cond (eqb i o) x 0) → set (table f n) o (at (table f n) o + x) ≡ table g n
+table-add f g n o x h = ext-getD 0 (set (table f n) o (at (table f n) o + x)) (table g n) (length-set (table f n) o (at (table f n) o + x) ∙ length-table f n ∙ sym (length-table g n))
+    (λ i l. each i (rw (length-set (table f n) o (at (table f n) o + x) ∙ length-table f n) at l))
+  where
+    each : (i : ℕ) → i < n → at (set (table f n) o (at (table f n) o + x)) i ≡ at (table g n) i
+    each i l =
+        let there = getD-table g n i l ∙ h i l in
+        split (eqb i o)
+        (λ p.
+        let e : i ≡ o = eqb-true i o p in
+        let same : at (set (table f n) o (at (table f n) o + x)) i ≡ at (table f n) o + x = rw e (getD-set-same (table f n) o (at (table f n) o + x) 0 (omega (arith, length-table f n))) in
+        omega (arith, same, ap (at (table f n)) e, getD-table f n i l, rw p at there))
+        (λ p. getD-set-other (table f n) o i (at (table f n) o + x) 0 (eqb-false i o p) ∙ getD-table f n i l ∙ sym (rw p at there ∙ omega arith))
 
 -- a loop that fills from the front
 pub fill : (f : ℕ → ℕ) (d : List ℕ) (i : ℕ) → i < length d → set (table f i ++ drop i d) i (f i) ≡ table f (i + 1) ++ drop (i + 1) d

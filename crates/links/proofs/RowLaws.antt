@@ -5,12 +5,12 @@ use mathlib.Core.List.{List, [], _∷_, map}
 use Prim.Native.Nat.{ℕ, zero, suc, _+_, _-_, _≤_, _<_}
 use native.Mathlib.Nat.{not-suc-le-zero, le-of-suc-le-suc, zero-add}
 use native.Mathlib.Omega.{arith}
-use borrow.Author.Tests.{le-leb, lt-leb, leb-true, leb-false, ltb-true, ltb-false, eq-eqb, ne-eqb}
+use borrow.Author.Tests.{le-leb, lt-leb, leb-true, leb-false, ltb-true, ltb-false, eq-eqb, ne-eqb, eqb-true}
 use lib.Dec.{eqb, leb, ltb}
 use lib.ListN.{length, getD, length-map, List·getD-eq-default}
 use Rattle.links.specs.Lists.{at, All, range, elem}
 use Rattle.links.specs.Parts.{part}
-use Rattle.links.specs.Graph.{row, rowsOf, vertexCount, neighborsOf, neighborsCause, strictlyRising, SoundLists}
+use Rattle.links.specs.Graph.{row, degree, rowsOf, vertexCount, neighborsOf, neighborsCause, strictlyRising, SoundLists}
 use Rattle.links.proofs.ListLaws.{split, length-range}
 use Rattle.links.proofs.PartLaws.{length-part, getD-part}
 use Rattle.links.proofs.ApartLaws.{rises-by}
@@ -114,6 +114,16 @@ row-always o l v = split (leb (vertexCount o) v)
     (λ p. row-query o l v (leb-false (vertexCount o) v p))
 
 -- ---- being in a list, by places
+
+-- a row is a part of the neighbors
+pub degree-few : (offsets neighbors : List ℕ) (u : ℕ) → degree (rowsOf offsets neighbors) u ≤ length neighbors
+unfolding neighborsOf
+degree-few offsets neighbors u =
+    rw (row-always offsets neighbors u)
+    (split (eqb (neighborsCause offsets neighbors u) 0)
+    (λ p. let z = cause-zero offsets neighbors u (eqb-true (neighborsCause offsets neighbors u) 0 p) in
+    rw p (omega (arith, length-part neighbors (at offsets u) (at offsets (u + 1)) (z .1) (z .2))))
+    (λ p. rw p (omega arith)))
 
 pub elem-place : (xs : List ℕ) (i x : ℕ) → i < length xs → at xs i ≡ x → elem x xs ≡ true
 elem-place [] i x h e = absurd (not-suc-le-zero h)

@@ -64,6 +64,10 @@ badLists offsets neighbors =
 unfoldable pub listsCause : List ℕ → List ℕ → ℕ
 listsCause offsets neighbors = cond (badLists offsets neighbors) 4 0
 
+-- the site's tests where k and L play no part: "3 (n and m only) and 4"
+unfoldable pub siteCause : List ℕ → List ℕ → ℕ
+siteCause offsets neighbors = cond (ltb 16384 (vertexCount offsets) || ltb 131072 (length neighbors)) 3 (listsCause offsets neighbors)
+
 -- the two slices that hold given rows: where each row starts, from a on, and the last one's end; and the rows one after the other
 abbrev pub offsetsFrom : ℕ → List (List ℕ) → List ℕ
 offsetsFrom a [] = a ∷ []
@@ -94,6 +98,13 @@ pub record ListsTested (offsets neighbors : List ℕ) (answer : ℕ) : Type 0 wh
 
 -- ---- owners
 
+-- sound lists within the limits, and an owner for each vertex
+pub record OwnedLists (offsets neighbors owners : List ℕ) : Type 0 where
+  pub lists : SoundLists offsets neighbors
+  pub sized : length owners ≡ vertexCount offsets
+  pub few : length owners ≤ 16384
+  pub short : length neighbors ≤ 131072
+
 -- how many of a list's vertices rank r owns
 unfoldable pub linksIn : List ℕ → List ℕ → ℕ → ℕ
 linksIn us owners r = length (filter (λ u. eqb (at owners u) r) us)
@@ -123,6 +134,10 @@ isCut owners l = not (eqb (at owners (l .0)) (at owners (l .1)))
 -- rule 6: "a level's cut links are its linked pairs with two owners, each counted once and unweighted"
 unfoldable pub cutLinks : List (List ℕ) → List ℕ → ℕ
 cutLinks rows owners = length (filter (isCut owners) (links rows))
+
+-- how many of a row another rank than home owns
+unfoldable pub foreignIn : List ℕ → List ℕ → ℕ → ℕ
+foreignIn us owners home = length (filter (λ u. not (eqb (at owners u) home)) us)
 
 -- rule 8: "cut = neighbour entries joining two crews"
 unfoldable pub cutEntries : List (List ℕ) → List ℕ → ℕ

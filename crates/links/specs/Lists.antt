@@ -1,7 +1,7 @@
 -- Functions on lists that the rules are written with. Every list here computes, so that the rules do. Assumes nothing.
-use Prim.Native.Nat.{ℕ, zero, suc, _+_}
+use Prim.Native.Nat.{ℕ, zero, suc, _+_, max}
 use mathlib.Core.Bool.{Bool, true, false, _&&_, _||_, cond}
-use mathlib.Core.List.{List, [], _∷_, _++_}
+use mathlib.Core.List.{List, [], _∷_, _++_, foldr}
 use mathlib.Core.Option.{Option, none, some}
 use lib.ListN.{getD}
 use lib.Dec.{ltb, leb, eqb}
@@ -57,6 +57,10 @@ range i (suc n) = i ∷ range (suc i) n
 abbrev pub sum : List ℕ → ℕ
 sum [] = 0
 sum (x ∷ xs) = x + sum xs
+
+-- 0 if there are none
+abbrev pub greatest : List ℕ → ℕ
+greatest xs = foldr max 0 xs
 
 abbrev pub elem : ℕ → List ℕ → Bool
 elem x xs = any (eqb x) xs

@@ -1,4 +1,5 @@
 // Loads and links: rules 1 and 2 of document 01, the neighbor query and the list test, workloads, options and stats, parts of the lent work slice.
+mod cut;
 mod lists;
 mod loads;
 mod options;
@@ -6,12 +7,14 @@ mod owners;
 mod parts;
 mod workloads;
 
+pub use cut::cut_entries;
 pub use lists::any_from;
 pub use lists::holds;
 pub use lists::lists_cause;
 pub use lists::neighbors_cause;
 pub use lists::neighbors_of;
 pub use lists::never_falls;
+pub use lists::site_cause;
 pub use lists::vertex_count;
 pub use loads::between;
 pub use loads::load_cap;

@@ -4,7 +4,7 @@ use crate::parts::wide;
 ghost use mathlib.Core.Path.{_≡_};
 ghost use lib.Dec.{leb};
 ghost use Rattle.links.specs.Lists.{any};
-ghost use Rattle.links.specs.Graph.{vertexCount, neighborsOf, neighborsCause, neverFalling, badOffsets, ListsTested};
+ghost use Rattle.links.specs.Graph.{vertexCount, neighborsOf, neighborsCause, neverFalling, badOffsets, siteCause, ListsTested};
 ghost use Rattle.links.specs.ListTest.{validRow, validRows, mirroredRow, mirroredRows, Rising, found};
 
 // How many vertices the offsets have: their number less 1, 0 if there are none.
@@ -209,4 +209,18 @@ pub fn lists_cause(offsets: &[u32], neighbors: &[u32]) -> u32
         return 4;
     }
     0
+}
+
+// 0, or the first of 3, more than 16,384 vertices or 131,072 neighbor entries, and 4.
+// Rules out: 131,072 entries refused; 4 where there are too many vertices.
+pub fn site_cause(offsets: &[u32], neighbors: &[u32]) -> u32
+    ensures { λ r. ⌜ r ≡ siteCause (now (offsets .entry)) (now (neighbors .entry)) ⌝ }
+{
+    if vertex_count(offsets) > 16384 {
+        return 3;
+    }
+    if neighbors.len() > 131072 {
+        return 3;
+    }
+    lists_cause(offsets, neighbors)
 }

@@ -2,6 +2,7 @@
 ghost use mathlib.Core.Path.{_≡_};
 ghost use Prim.Native.Nat.{_+_, min};
 ghost use lib.ListN.{length, set, replicate};
+ghost use Rattle.links.specs.Lists.{at};
 ghost use Rattle.links.specs.Parts.{copied, filledPart, copiedPart};
 
 // Rules out: the lowest 16 bits alone; a number above 2^31 taken for a negative one.
@@ -23,6 +24,13 @@ fn least(a: usize, b: usize) -> usize
     ensures { λ r. ⌜ r ≡ min a b ⌝ }
 {
     if a < b { a } else { b }
+}
+
+// The number in the place i, 0 past the end.
+pub(crate) fn number_at(xs: &[u32], i: usize) -> u32
+    ensures { λ r. ⌜ r ≡ at (now (xs .entry)) i ⌝ }
+{
+    if i < xs.len() { xs[i] } else { 0 }
 }
 
 // x in the place i; nothing past the end.

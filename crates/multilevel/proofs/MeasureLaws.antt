@@ -1,97 +1,26 @@
--- Laws of the cut and the volume: what is left to count, one vertex more of a row, and the volume counted vertex by vertex. Assumes nothing.
-use Prim.Native.Nat.{ℕ, suc, _+_, _-_, _*_, _≤_, _<_}
+-- Laws of the volume: one vertex more of a row, and the volume counted vertex by vertex; and what a level is to the count of its cut. Assumes nothing.
+use Prim.Native.Nat.{ℕ, _+_, _-_, _*_, _≤_, _<_}
 use mathlib.Core.Path.{_≡_, refl, sym, ap, _∙_}
 use mathlib.Core.Bool.{Bool, true, false, not, _&&_, _||_, cond}
 use mathlib.Core.List.{List, [], _∷_, map}
-use native.Mathlib.Numerals.{add-one}
 use native.Mathlib.Omega.{arith}
-use lib.ListN.{length, set, take, drop, length-map}
+use lib.ListN.{length, set, take, length-map}
 use lib.Seq.{take-all, getD-set-same, getD-set-other}
 use lib.Dec.{eqb}
 use borrow.Author.Tests.{eq-eqb, ne-eqb, eqb-true, eqb-false, not-true, not-false}
 use Rattle.links.specs.Lists.{at, any, range, elem}
 use Rattle.links.specs.Parts.{part, Kept}
-use Rattle.links.specs.Graph.{row, rowsOf, neighborsOf, vertices, cutEntries, foreignNeighbors, volume, Sound}
-use Rattle.links.proofs.ListLaws.{split, eqb-sym, and-l, and-r, and-i, or-true, or-false, iff-eq, tally, count, count-length, count-drop, all-in, all-range, length-range, any-of, to-any, elem-range, elem-map, elem-take, none-filter, total, total-ext, total-add, total-point, sum-total, and-false, and-true, count-range, total-swap}
+use Rattle.links.specs.Graph.{row, vertices, cutEntries, foreignNeighbors, volume, Sound, OwnedLists}
+use Rattle.links.proofs.ListLaws.{split, eqb-sym, and-l, and-r, and-i, or-true, or-false, iff-eq, tally, count, count-length, all-in, all-range, length-range, any-of, to-any, elem-range, elem-map, elem-take, none-filter, total, total-ext, total-add, total-point, total-left, total-done, sum-total, and-false, and-true, count-range, total-swap}
 use Rattle.links.proofs.RangeLaws.{filter-ext}
 use Rattle.links.proofs.PartLaws.{length-part, getD-part, kept-refl, kept-trans, kept-set}
-use Rattle.links.proofs.RowLaws.{all-place, length-rows, row-query, length-row, offsets-fit}
+use Rattle.links.proofs.RowLaws.{all-place}
 use Rattle.stages.specs.Level.{offsetsAt, neighborsAt, rowsAt, ownersAt, Ready}
 use Rattle.stages.specs.declared.level.HierarchyLevel.{HierarchyLevel}
 use Rattle.multilevel.proofs.RoomLaws.{same-level, owner-lies, offset-in, offset-rises, row-lies, at-map}
 use Rattle.multilevel.specs.declared.measure.Measures.{Measures}
-use Rattle.multilevel.specs.Measure.{Below, foreignIn, Owned, otherRanks, ranksMet, Marked, unmarked, Met, Legible, rowOwners, RowMet, Measurable, VertexMet, VolumeMet, Measured}
+use Rattle.multilevel.specs.Measure.{Below, otherRanks, ranksMet, Marked, unmarked, Met, Legible, rowOwners, RowMet, Measurable, VertexMet, VolumeMet, Measured}
 use Rattle.stages.proofs.LevelLaws.{length-neighbors, length-owners, count-vertices, all-vertices, ready-kept, neighbors-below}
-
--- ---- sums over a range
-
--- what is left of a sum, as a loop meets it
-pub total-left : (f : ℕ → ℕ) (v n : ℕ) → v < n → total v (n - v) f ≡ f v + total (v + 1) (n - (v + 1)) f
-unfolding total
-total-left f v n h =
-    let e : n - v ≡ suc (n - (v + 1)) = omega arith in
-    rw (e, add-one)
-
-pub total-done : (f : ℕ → ℕ) (v n : ℕ) → n ≤ v → total v (n - v) f ≡ 0
-unfolding total
-total-done f v n h = let e : n - v ≡ 0 = omega arith in rw e
-
--- ---- the cut
-
-pub cut-total
-    : (rows : List (List ℕ)) (owners : List ℕ) → cutEntries rows owners ≡ total 0 (length rows) (λ v. foreignIn (row rows v) owners (at owners v))
-unfolding cutEntries foreignIn
-cut-total rows owners = sum-total (λ v. foreignIn (row rows v) owners (at owners v)) 0 (length rows)
-
--- one entry more
-pub foreign-drop
-    : (us owners : List ℕ) (home i : ℕ)
-    → i < length us
-    → foreignIn (drop i us) owners home ≡ tally (not (eqb (at owners (at us i)) home)) + foreignIn (drop (i + 1) us) owners home
-unfolding foreignIn
-foreign-drop us owners home i h = count-drop us i 0 h (λ u. not (eqb (at owners u) home))
-
-pub foreign-few : (us owners : List ℕ) (home : ℕ) → foreignIn us owners home ≤ length us
-unfolding foreignIn
-foreign-few us owners home = count-length (λ u. not (eqb (at owners u) home)) us
-
--- the entries of the first v rows are counted
-pub record Cutting (offsets neighbors owners : List ℕ) (x v : ℕ) : Type 0 where
-  pub left
-      : x + total v (length owners - v) (λ u. foreignIn (row (rowsOf offsets neighbors) u) owners (at owners u))
-      ≡ cutEntries (rowsOf offsets neighbors) owners
-  pub small : x ≤ 131072 * v
-
-module _ (offsets neighbors owners : List ℕ) (o : Owned offsets neighbors owners) where
-  rows-owned : length (rowsOf offsets neighbors) ≡ length owners
-  rows-owned = length-rows offsets neighbors ∙ sym (o .sized)
-
-  pub cutting-none : Cutting offsets neighbors owners 0 0
-  cutting-none =
-      let z : length owners - 0 ≡ length owners = omega arith in
-      record { left = rw z (omega (arith, rw rows-owned at (cut-total (rowsOf offsets neighbors) owners))); small = omega arith }
-
-  module _ (v : ℕ) (h : v < length owners) (us : List ℕ) (e : us ≡ neighborsOf offsets neighbors v) where
-    query-row : us ≡ row (rowsOf offsets neighbors) v
-    query-row = e ∙ sym (row-query offsets neighbors v (rw (o .sized) at h))
-
-    pub row-owned : Below us (length owners)
-    row-owned = rw (query-row, ← rows-owned) (o .lists .sound .below v (rw rows-owned h))
-
-    pub cutting-more : (x r : ℕ) → Cutting offsets neighbors owners x v → r ≡ foreignIn us owners (at owners v) → Cutting offsets neighbors owners (x + r) (v + 1)
-    cutting-more x r t q =
-        let rows = rowsOf offsets neighbors in
-        let f : ℕ → ℕ = λ u. foreignIn (row rows u) owners (at owners u) in
-        let here : r ≡ f v = q ∙ ap (λ (y : List ℕ). foreignIn y owners (at owners v)) query-row in
-        let long : length us ≤ 131072 =
-        rw query-row (omega (arith, length-row offsets neighbors (o .lists) v (rw (o .sized) at h), offsets-fit offsets neighbors (o .lists) (v + 1) (omega (arith, o .sized)), o .short)) in
-        record {
-          left = omega (arith, t .left, total-left f v (length owners) h, here);
-          small = omega (arith, t .small, foreign-few us owners (at owners v));
-        }
-
-  pub cutting-done : (x v : ℕ) → Cutting offsets neighbors owners x v → length owners ≤ v → x ≡ cutEntries (rowsOf offsets neighbors) owners
-  cutting-done x v t h = omega (arith, t .left, total-done (λ u. foreignIn (row (rowsOf offsets neighbors) u) owners (at owners u)) v (length owners) h)
 
 -- ---- the volume, counted vertex by vertex
 
@@ -343,7 +272,7 @@ map-under : (f g : ℕ → ℕ) (n : ℕ) (xs : List ℕ) → Below xs n → ((x
 map-under f g n [] a e = refl
 map-under f g n (x ∷ xs) a e = rw (e x (a .0), map-under f g n xs (a .1) e)
 
-pub level-owned : (w : List ℕ) (l : HierarchyLevel) (end : ℕ) → Ready w l end → Owned (offsetsAt w l) (neighborsAt w l) (ownersAt w l)
+pub level-owned : (w : List ℕ) (l : HierarchyLevel) (end : ℕ) → Ready w l end → OwnedLists (offsetsAt w l) (neighborsAt w l) (ownersAt w l)
 level-owned w l end r =
     record {
       lists = r .lists;

@@ -1,4 +1,4 @@
--- Rule 8's cut and volume, as they are counted: entry by entry, and for each vertex the ranks to which it is a foreign neighbor. Assumes nothing.
+-- Rule 8's volume, as it is counted: for each vertex the ranks to which it is a foreign neighbor. Assumes nothing.
 use Prim.Native.Nat.{ℕ, _+_, _≤_, _<_}
 use mathlib.Core.Path.{_≡_}
 use mathlib.Core.Bool.{Bool, not, _&&_, cond}
@@ -7,26 +7,13 @@ use lib.ListN.{length, set}
 use lib.Dec.{eqb}
 use Rattle.links.specs.Lists.{at, All, filter, range, elem}
 use Rattle.links.specs.Parts.{part, Kept}
-use Rattle.links.specs.Graph.{row, vertexCount, cutEntries, volume, SoundLists}
+use Rattle.links.specs.Graph.{row, cutEntries, volume}
 use Rattle.stages.specs.Level.{rowsAt, ownersAt, Ready}
 use Rattle.stages.specs.declared.level.HierarchyLevel.{HierarchyLevel}
 use Rattle.multilevel.specs.declared.measure.Measures.{Measures}
 
 abbrev pub Below : List ℕ → ℕ → Type 0
 Below xs n = All (λ x. x < n) xs
-
--- ---- the cut
-
--- how many of a row another rank than home owns
-unfoldable pub foreignIn : List ℕ → List ℕ → ℕ → ℕ
-foreignIn us owners home = length (filter (λ u. not (eqb (at owners u) home)) us)
-
--- sound lists within the limits, and an owner for each vertex
-pub record Owned (offsets neighbors owners : List ℕ) : Type 0 where
-  pub lists : SoundLists offsets neighbors
-  pub sized : length owners ≡ vertexCount offsets
-  pub few : length owners ≤ 16384
-  pub short : length neighbors ≤ 131072
 
 -- ---- the volume
 

@@ -3,49 +3,17 @@ ghost use mathlib.Core.Path.{_≡_};
 ghost use Prim.Native.Nat.{_+_, _<_};
 ghost use lib.ListN.{length};
 ghost use Rattle.links.specs.Lists.{at};
-ghost use Rattle.links.specs.Graph.{rowsOf, cutEntries};
+ghost use Rattle.links.specs.Graph.{cutEntries};
 ghost use Rattle.stages.specs.Level.{rowsAt, ownersAt, Ready};
-ghost use Rattle.multilevel.specs.Measure.{Below, foreignIn, Owned, Met, Legible, RowMet, Measurable, Marked, VertexMet, VolumeMet, Measured};
+ghost use Rattle.multilevel.specs.Measure.{Met, Legible, RowMet, Measurable, Marked, VertexMet, VolumeMet, Measured};
+use links::cut_entries;
 use links::fill_part;
 use links::index;
-use links::neighbors_of;
 use stages::HierarchyLevel;
 
 pub struct Measures {
     pub cut: u64,
     pub volume: u64,
-}
-
-// How many of a row's vertices another rank than home owns.
-fn foreign(row: &[u32], owners: &[u32], home: u32) -> u64
-    requires { ⌜ Below (now row) (length (now owners)) ⌝ }
-    ensures { λ r. ⌜ r ≡ foreignIn (now (row .entry)) (now (owners .entry)) home ⌝ }
-{
-    let mut x: u64 = 0;
-    let mut i = 0;
-    while i < row.len() {
-        let u = index(row[i]);
-        if owners[u] != home {
-            x += 1;
-        }
-        i += 1;
-    }
-    x
-}
-
-// Neighbor entries that join two ranks.
-fn cut_entries(offsets: &[u32], neighbors: &[u32], owners: &[u32]) -> u64
-    requires { ⌜ Owned (now offsets) (now neighbors) (now owners) ⌝ }
-    ensures { λ r. ⌜ r ≡ cutEntries (rowsOf (now (offsets .entry)) (now (neighbors .entry))) (now (owners .entry)) ⌝ }
-{
-    let mut x: u64 = 0;
-    let mut v = 0;
-    while v < owners.len() {
-        let row = neighbors_of(offsets, neighbors, v as u64);
-        x += foreign(row, owners, owners[v]);
-        v += 1;
-    }
-    x
 }
 
 fn cut_in(work: &[u32], l: HierarchyLevel) -> u64

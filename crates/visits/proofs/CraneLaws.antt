@@ -1,15 +1,15 @@
 -- Cause 21 and what it leaves, the loop over the visits, the two answers, and that no block has more visits, wherever it begins. Assumes nothing.
-use Prim.Native.Nat.{ℕ, zero, suc, _+_, _-_, _*_, _≤_, _<_, max}
+use Prim.Native.Nat.{ℕ, zero, suc, _+_, _-_, _*_, _≤_, _<_}
 use mathlib.Core.Path.{_≡_, refl, sym, ap, _∙_, subst}
 use mathlib.Core.Bool.{Bool, true, false, not, _||_, true≢false}
-use mathlib.Core.List.{List, [], _∷_, map, foldr}
+use mathlib.Core.List.{List, [], _∷_}
 use native.Mathlib.Omega.{arith}
 use lib.ListN.{length}
 use lib.Dec.{leb, ltb, eqb}
 use borrow.Author.Tests.{eq-eqb, le-leb, leb-true, lt-ltb, le-ltb, ltb-true, ltb-false, eqb-true, not-false}
 use Rattle.links.specs.Lists.{at, All, filter, any, between}
 use Rattle.links.specs.Graph.{neverFalling}
-use Rattle.links.proofs.ListLaws.{split, and-l, and-r, and-i, or-l, or-r, or-false, count, count-cons, count-is, count-le, all-to, all-getD, to-any, none-any, between-least}
+use Rattle.links.proofs.ListLaws.{split, and-l, and-r, and-i, or-l, or-r, or-false, count, count-cons, count-is, count-le, all-to, to-any, none-any, between-least, greatest-bounds, greatest-is}
 use Rattle.links.proofs.RowLaws.{by-place, elem-place}
 use Rattle.links.proofs.ApartLaws.{never-falls-first, never-falls-by}
 use Rattle.visits.specs.Crane.{badVisits, inBlock, visitsFrom, mostVisits, earliestDay, sweepStep, sweepStart, sweepAfter, Carried, craneWeek, CraneTold}
@@ -96,22 +96,6 @@ module _ (w : ℕ) (days : List ℕ) (s : Sweep) (o : Onward w days s) (some : 1
 
 -- ---- the most visits, and the earliest day
 
-max-bounds : (f : ℕ → ℕ) (xs : List ℕ) → All (λ x. f x ≤ foldr max 0 (map f xs)) xs
-max-bounds f [] = tt
-max-bounds f (x ∷ xs) = (omega arith, all-to (λ y. f y ≤ foldr max 0 (map f xs)) (λ y. f y ≤ max (f x) (foldr max 0 (map f xs))) (λ y h. omega arith) xs (max-bounds f xs))
-
-max-is
-    : (f : ℕ → ℕ) (xs : List ℕ) (m p : ℕ)
-    → ((a : ℕ) → a < length xs → f (at xs a) ≤ m)
-    → p < length xs
-    → f (at xs p) ≡ m
-    → foldr max 0 (map f xs) ≡ m
-max-is f xs m p h k e = omega (arith, most xs h, all-getD xs p 0 k (λ x. f x ≤ foldr max 0 (map f xs)) (max-bounds f xs), e)
-  where
-    most : (xs : List ℕ) → ((a : ℕ) → a < length xs → f (at xs a) ≤ m) → foldr max 0 (map f xs) ≤ m
-    most [] h = omega arith
-    most (x ∷ xs) h = omega (arith, h 0 (omega arith), most xs (λ a k. h (suc a) (omega arith)))
-
 -- the first that passes, where all that pass up to its place are the same
 first-is
     : (t : ℕ → Bool) (xs : List ℕ) (d p : ℕ)
@@ -130,7 +114,7 @@ module _ (w : ℕ) (days : List ℕ) (good : Passed w days) (i : ℕ) (whole : s
   unfolding mostVisits
   most-some =
       let v = on-visit w days (good .some) (good .rising) i whole visits in
-      sym (max-is (visitsFrom w days) days (sweepAfter w days i .best) (v .0) (at-most w days (good .some) (good .rising) i whole) (v .1) (v .3))
+      sym (greatest-is (visitsFrom w days) days (sweepAfter w days i .best) (v .0) (at-most w days (good .some) (good .rising) i whole) (v .1) (v .3))
 
   day-some : sweepAfter w days i .day ≡ earliestDay w days
   unfolding earliestDay
@@ -209,7 +193,7 @@ block-later w d xs x e a = all-to (λ y. x ≤ y) (λ y. inBlock w d y ≡ true 
 -- no w days have more visits than those that begin on a visit day, wherever they begin
 pub any-block : (w : ℕ) (days : List ℕ) → neverFalling days ≡ true → (d : ℕ) → visitsFrom w days d ≤ mostVisits w days
 unfolding visitsFrom mostVisits
-any-block w days rising d = go days rising (λ y. omega arith) (max-bounds (visitsFrom w days) days)
+any-block w days rising d = go days rising (λ y. omega arith) (greatest-bounds (visitsFrom w days) days)
   where
     go
         : (xs : List ℕ)

@@ -1,12 +1,12 @@
 -- Request P12: crane weeks. The list has the day of each visit. Assumes nothing.
-use Prim.Native.Nat.{ℕ, zero, suc, _+_, _-_, _*_, _≤_, max}
+use Prim.Native.Nat.{ℕ, zero, suc, _+_, _-_, _*_, _≤_}
 use mathlib.Core.Path.{_≡_}
 use mathlib.Core.Bool.{Bool, false, not, _&&_, _||_, cond}
-use mathlib.Core.List.{List, map, foldr}
+use mathlib.Core.List.{List, map}
 use mathlib.Core.Logic.{_⊎_}
 use lib.ListN.{length}
 use lib.Dec.{leb, ltb, eqb}
-use Rattle.links.specs.Lists.{at, filter, any, between}
+use Rattle.links.specs.Lists.{at, filter, any, between, greatest}
 use Rattle.links.specs.Graph.{neverFalling}
 use Rattle.visits.specs.declared.crane.Sweep.{Sweep}
 use Rattle.visits.specs.declared.crane.CraneWeek.{CraneWeek}
@@ -25,7 +25,7 @@ visitsFrom w days d = length (filter (inBlock w d) days)
 
 -- "the largest number of visits in any w consecutive days that begin on a visit day"; of no visit, "0"
 unfoldable pub mostVisits : ℕ → List ℕ → ℕ
-mostVisits w days = foldr max 0 (map (visitsFrom w days) days)
+mostVisits w days = greatest (map (visitsFrom w days) days)
 
 -- "the earliest such day", the first of a list that never falls; of no visit, "day 0"
 unfoldable pub earliestDay : ℕ → List ℕ → ℕ

@@ -1,4 +1,5 @@
 -- The level's lists are lent as parts. Assumes nothing.
+use Rattle.links.proofs.CutLaws.{cut-fits}
 use Rattle.multilevel.proofs.MeasureLaws.{level-owned}
 use borrow.Author.Needs.{needs}
 use Rattle.multilevel.proofs.measure.cut_in.Statement.{statement}
@@ -53,10 +54,10 @@ part-cut-entries-end-3 : tie.Need-part-cut-entries-end-3
 part-cut-entries-end-3 c = search needs
 
 cut-entries-requires : tie.Need-cut-entries-requires
-cut-entries-requires c κs = level-owned _ _ _ (c .before .before .before .before .pre)
+cut-entries-requires c κs = search needs
 
 returns : tie.Need-returns
-returns c = search needs
+returns c = cut-fits _ _ _ (level-owned _ _ _ (c .before .before .before .before .before .pre)) _ (c .cut-entries .ensures)
 
 pub cut-in-spec : {M : Type 1} → statement M
 cut-in-spec =
