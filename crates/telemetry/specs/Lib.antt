@@ -1,0 +1,4 @@
+pub mod Balances
+pub mod Sites
+pub mod SitesCode
+pub mod Telemetry
