@@ -6,9 +6,11 @@
 //! The count is how many random inputs a check draws (20000 if not given, 1000000 with --long). With --long the graphs of five
 //! vertices are divided in every check of all small ones, the largest forced runs are made, and request P14's least imbalance is
 //! tried for every number of vertices and ranks. The exit status is 1 where an answer differs.
+mod balance;
 mod bridge_stages;
 mod byhand;
 mod crane;
+mod divided;
 mod division;
 mod levels;
 mod link_file;
@@ -18,6 +20,7 @@ mod season;
 mod seasons;
 mod stages;
 mod stuck;
+mod telemetry;
 
 use compare::{bridge, bridge_season};
 use report::Report;
@@ -45,6 +48,8 @@ fn main() {
     links::compare(&mut report, seed, count);
     crane::compare(&mut report, seed, count);
     season::compare(&mut report, seed, count);
+    telemetry::compare(&mut report, seed, count);
+    balance::compare(&mut report, seed, count);
     link_file::compare(&mut report, seed, count);
     stages::compare(&mut report, seed, count);
     division::compare(&mut report, seed, count, long);

@@ -3,6 +3,11 @@
 use std::collections::BTreeMap;
 use std::fmt::Debug;
 
+/// How long a list is, and its first numbers.
+pub fn first_of(list: &[u32]) -> String {
+    format!("{} {:?}", list.len(), &list[..list.len().min(20)])
+}
+
 #[derive(Default)]
 pub struct Report {
     /// Words for the checks that are run: those whose name has one of them, or all where there are none.

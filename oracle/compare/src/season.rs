@@ -1,7 +1,7 @@
 //! Request P11: season windows, crate visits, beside two readings of the request (reference::season).
 use crate::bridge_season::{self, DAY_GUARD};
 use crate::links::lists_of;
-use crate::report::{Check, Report};
+use crate::report::{Check, Report, first_of};
 use crate::seasons::{self, in_turn, just_enough, season_of, with_windows};
 use reference::answers::{MAX_RANKS, MAX_VERTICES};
 use reference::crane::LAST_DAY;
@@ -34,8 +34,8 @@ pub fn compare(report: &mut Report, seed: u64, count: u64) {
 
 fn shown(season: &Season) -> String {
     let Season { ranks, owners, counts, days, lent } = season;
-    let cut = |list: &[u32]| format!("{} {:?}", list.len(), &list[..list.len().min(20)]);
-    format!("k {ranks}, owners {}, counts {}, days {}, {lent} lent", cut(owners), cut(counts), cut(days))
+    let [owners, counts, days] = [owners, counts, days].map(|list| first_of(list));
+    format!("k {ranks}, owners {owners}, counts {counts}, days {days}, {lent} lent")
 }
 
 fn of_slices(ranks: u32, slices: [&[u32]; 3], lent: usize) -> Season {
@@ -311,7 +311,7 @@ fn faults_together(check: &mut Check) {
 }
 
 /// About so many, some far fewer or far more, and some that are right again if a high part is dropped.
-fn about(length: usize) -> Vec<usize> {
+pub fn about(length: usize) -> Vec<usize> {
     let low = (0..=3).chain([length / 2]);
     let near = length.saturating_sub(3)..=length + 3;
     let parts = [1 << 8, 1 << 16].into_iter().flat_map(|part| [part, part + length - 1, part + length]);

@@ -64,7 +64,7 @@ pub fn in_turn(n: usize, ranks: u32) -> Vec<u32> {
 }
 
 /// Owners in turn, drawn, rank after rank, or most of them the first or the last rank's.
-fn drawn_owners(random: &mut Random, n: usize, ranks: u32) -> Vec<u32> {
+pub fn drawn_owners(random: &mut Random, n: usize, ranks: u32) -> Vec<u32> {
     let mut owners = some_owners(random, n, ranks, 0);
     match random.below(4) {
         0 => owners = in_turn(n, ranks),
@@ -212,7 +212,7 @@ const STRAY_OWNER: [Fault; 3] = [
 ];
 
 /// All vertices of one rank are given to another.
-fn emptied(owners: &mut [u32], rank: u32, other: u32) {
+pub fn emptied(owners: &mut [u32], rank: u32, other: u32) {
     owners.iter_mut().filter(|owner| **owner == rank).for_each(|owner| *owner = other);
 }
 
@@ -258,16 +258,16 @@ const BAD_WINDOWS: [Fault; 18] = [
     |s| s.days.fill(u32::MAX),
 ];
 
-/// Each season by itself, and with each of the faults.
-fn with(seasons: Vec<Season>, faults: &[Fault]) -> Vec<Season> {
-    let none: Fault = |_| ();
-    let broken = |season: &Season, fault: &Fault| {
-        let mut season = season.clone();
-        fault(&mut season);
-        season
+/// Each of these by itself, and with each of the faults.
+pub fn with<T: Clone>(whole: Vec<T>, faults: &[fn(&mut T)]) -> Vec<T> {
+    let none: fn(&mut T) = |_| ();
+    let broken = |one: &T, fault: &fn(&mut T)| {
+        let mut one = one.clone();
+        fault(&mut one);
+        one
     };
     let all = [&[none], faults].concat();
-    seasons.iter().flat_map(|season| all.iter().map(move |fault| broken(season, fault))).collect()
+    whole.iter().flat_map(|one| all.iter().map(move |fault| broken(one, fault))).collect()
 }
 
 /// Every combination of faults, one of a kind at most. The season without one has 300 vertices and four ranks with just enough days.

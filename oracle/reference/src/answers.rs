@@ -1,7 +1,7 @@
 //! What documents 01 and 02 expect of each public call. Where they add a refusal (3, 4, 5, 13, 17; cap and floor beyond their
 //! range), their rule stands here and comes first, in their order; all else is what the Rust answers: the unchanged Rust where no
 //! request of 02 can change the answer, else the oracle in force.
-use crate::sites::Question;
+use crate::sites::{Question, Site};
 use crate::unchanged::{self, stages};
 use crate::{Csr32Matrix, DistributedTopologyError, PartitionAssignment, RankId, in_force};
 
@@ -248,12 +248,15 @@ pub type Asked = fn(&Csr32Matrix, &[usize], RankId, [u64; 6]) -> Result<Division
 pub fn oracle_partition(oracle: Asked, question: &Question) -> Result<Division, u32> {
     assert!(std::env::var_os("HYBIT_A6_F12_MERGE").is_none(), "HYBIT_A6_F12_MERGE must be unset");
     let Question { site, workloads, ranks, options } = question;
-    let n = vertex_count(&site.offsets);
-    let (offsets, neighbors) = (site.offsets.clone(), site.neighbors.clone());
-    let values = vec![1.0; neighbors.len()];
-    let matrix = Csr32Matrix::new(n, n, offsets, neighbors, values).expect("lists that make a matrix");
     let workloads: Vec<usize> = workloads.iter().map(|&w| w as usize).collect();
-    oracle(&matrix, &workloads, *ranks, options.numbers()).map_err(|e| refusal(&e, n, *ranks))
+    oracle(&matrix(site), &workloads, *ranks, options.numbers()).map_err(|e| refusal(&e, site.vertices(), *ranks))
+}
+
+/// The Rust's matrix of a site whose lists make one: every value is 1.
+pub fn matrix(site: &Site) -> Csr32Matrix {
+    let (n, offsets, neighbors) = (site.vertices(), site.offsets.clone(), site.neighbors.clone());
+    let values = vec![1.0; neighbors.len()];
+    Csr32Matrix::new(n, n, offsets, neighbors, values).expect("lists that make a matrix")
 }
 
 /// The owners that the moves or the swaps of one level leave and the number of steps, or a refusal.

@@ -19,6 +19,7 @@ pub mod season;
 pub mod sites;
 mod stand_ins;
 pub mod stuck;
+pub mod telemetry;
 pub mod trace;
 
 pub use csr32::Csr32Matrix;

@@ -16,7 +16,7 @@ pub fn listing(file: &[u8]) -> String {
 const CUT: usize = 6;
 
 /// Half of the cut, which must be whole, and "the number of links whose ends have different owners", counted.
-fn half(cut: u64, site: &Site, owners: &[u32]) -> u64 {
+pub(crate) fn half(cut: u64, site: &Site, owners: &[u32]) -> u64 {
     assert_eq!(cut % 2, 0, "the cut of {site:?} by {owners:?} has no whole half");
     let links = site.links().iter().filter(|&&(a, b)| owners[a] != owners[b]).count() as u64;
     assert_eq!(cut / 2, links, "half of the cut of {site:?} by {owners:?} is not its cut links");

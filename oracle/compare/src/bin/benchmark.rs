@@ -1,5 +1,6 @@
 //! Hipstern's division beside that of the oracle in force, in one process and one run: how many times as fast it is. Two more tables
-//! have crane weeks and season windows, which the Rust has none of, beside a plain count in Rust.
+//! have crane weeks and season windows, which the Rust has none of, beside a plain count in Rust, and a fourth the telemetry beside
+//! that of the unchanged Rust.
 //!
 //!     benchmark [--times NUMBER] [WORD..]
 //!
@@ -17,14 +18,20 @@
 //! A row of the third table is a number of ranks, to which the vertices belong in turn, and windows with just enough open days for
 //! each rank. The plain count (reference::season) goes through all vertices before each one and through its rank's days; it gets the
 //! windows ready made, and tests nothing. The library tests owners and windows, and runs 200 times for each time of it.
+//!
+//! A row of the fourth table is a site and a number of ranks, to which the vertices belong in runs of equal length, or in turn, so that
+//! nearly all links are cut; the last row is sixteen of these sites. The Rust (`partition_telemetry_assignment`, on each of the sites)
+//! gets its matrix and its assignment ready made, and finds the remote vertices of each rank too; the library tests lists and owners.
+//! Both run in turn, ten times NUMBER times.
 use compare::{bridge, bridge_season};
-use reference::answers::{MAX_VERTICES, Options, lent_needs};
+use reference::answers::{self, MAX_VERTICES, Options, lent_needs};
 use reference::crane::{self, LAST_DAY, MAX_VISITS};
 use reference::in_force::{self, abtm_multilevel_partition};
 use reference::random::Random;
 use reference::season::{self, Season};
 use reference::sites::{self, Question, Site};
-use reference::{Csr32Matrix, forced};
+use reference::telemetry::{self, Divided, MAX_SITES, Sites};
+use reference::{PartitionAssignment, forced, partition_telemetry_assignment};
 use std::alloc::{GlobalAlloc, Layout, System};
 use std::hint::black_box;
 use std::sync::atomic::{AtomicBool, AtomicUsize, Ordering::Relaxed};
@@ -112,8 +119,7 @@ fn timed<T>(least: &mut Duration, run: impl FnOnce() -> T) -> T {
 fn measure(row: &Row, times: u32) -> Taken {
     let Question { site, workloads, ranks, options } = &row.asked;
     let (n, m) = (site.vertices(), site.neighbors.len());
-    let matrix =
-        Csr32Matrix::new(n, n, site.offsets.clone(), site.neighbors.clone(), vec![1.0; m]).expect("sound lists");
+    let matrix = answers::matrix(site);
     let weights: Vec<usize> = workloads.iter().map(|&w| w as usize).collect();
     let asked = || abtm_multilevel_partition(&matrix, &weights, *ranks, in_force::options(options.numbers()));
     let (owners_need, work_need) = lent_needs(n, m, *ranks, options.max_levels);
@@ -143,23 +149,27 @@ fn measure(row: &Row, times: u32) -> Taken {
     Taken { ours, rust, lent: 4 * (owners_need + work_need), allocated }
 }
 
-fn rows() -> Vec<Row> {
-    let n = 16_384;
-    let mut random = Random::new(1);
-    let default = Options::of([12, 64, 30, 2]);
-    let shapes = [
+/// Large sites of many shapes, and their names.
+fn shapes(random: &mut Random) -> [(&'static str, Site); 7] {
+    let n = MAX_VERTICES;
+    [
         ("grid", sites::grid(128, 128)),
-        ("geometric", sites::geometric(&mut random, n, 12_700)),
+        ("geometric", sites::geometric(random, n, 12_700)),
         ("path", sites::path(n)),
         ("star", sites::star(n)),
-        ("tree", sites::tree(&mut random, n, n)),
+        ("tree", sites::tree(random, n, n)),
         ("hubs", sites::hubs(n, 4)),
         ("skewed hub", sites::skewed_hub(n, 11_000, 5)),
-    ];
+    ]
+}
+
+fn rows() -> Vec<Row> {
+    let mut random = Random::new(1);
+    let default = Options::of([12, 64, 30, 2]);
     let row =
         |name: &str, site: Site, ranks, options| Row { name: name.into(), asked: Question::new(site, ranks, options) };
     let mut rows = Vec::new();
-    for (name, site) in shapes {
+    for (name, site) in shapes(&mut random) {
         for ranks in [2, 8, 64, 256] {
             rows.push(row(name, site.clone(), ranks, default));
         }
@@ -176,7 +186,7 @@ fn rows() -> Vec<Row> {
     rows.push(row("forced swaps", swaps.clone(), 64, forced_options(0)));
     rows.push(row("forced swaps, lists of 12", swaps, 64, forced_options(0).with([12, 8])));
     let mut weighed = row("grid, workloads 1 to 10,000", sites::grid(128, 128), 8, default);
-    weighed.asked.workloads = (0..n).map(|_| random.between(1, 10_000) as u32).collect();
+    weighed.asked.workloads = (0..MAX_VERTICES).map(|_| random.between(1, 10_000) as u32).collect();
     rows.push(weighed);
     rows
 }
@@ -338,6 +348,71 @@ fn season_windows(rows: &[Windows], times: u32) {
     }
 }
 
+// ---- telemetry
+
+struct Run {
+    name: String,
+    sites: Vec<Divided>,
+}
+
+/// Each of some shapes among 8 and 256 ranks, and sixteen of these.
+fn runs() -> Vec<Run> {
+    let owners: [(&str, fn(u32, u32, u32) -> u32); 2] =
+        [("", |v, ranks, n| v * ranks / n), (", ranks in turn", |v, ranks, _| v % ranks)];
+    let mut runs = Vec::new();
+    for (name, site) in shapes(&mut Random::new(1)) {
+        let n = site.vertices() as u32;
+        for (kind, owner) in owners.iter().filter(|_| !["tree", "skewed hub"].contains(&name)) {
+            for ranks in [8, 256] {
+                let owners = (0..n).map(|v| owner(v, ranks, n)).collect();
+                let sites = vec![Divided { site: site.clone(), ranks, owners }];
+                runs.push(Run { name: format!("telemetry, {name}{kind}"), sites });
+            }
+        }
+    }
+    let sites = runs.iter().flat_map(|run| run.sites.clone()).take(MAX_SITES).collect();
+    runs.push(Run { name: "telemetry, sixteen sites".into(), sites });
+    runs
+}
+
+/// The least times of the library and of the Rust. A difference ends the run.
+fn measure_run(run: &Run, times: u32) -> (Duration, Duration) {
+    let (mut ours, mut rust) = (Duration::MAX, Duration::MAX);
+    let assignment = |one: &Divided| PartitionAssignment::from_owners(one.ranks, one.owners.clone());
+    let ready = |one: &Divided| (answers::matrix(&one.site), assignment(one).expect("good owners"));
+    let ready: Vec<_> = run.sites.iter().map(ready).collect();
+    let lent = Sites::new(&run.sites);
+    let expected = telemetry::sites_balance(&lent).expect("good sites");
+    for _ in 0..10 * times {
+        let all = || ready.iter().map(|(matrix, owners)| partition_telemetry_assignment(black_box(matrix), owners));
+        let told: Vec<_> = timed(&mut rust, || all().map(|told| told.expect("an owner for each vertex")).collect());
+        if let [one] = &run.sites[..] {
+            let mut ratios = [0.0; 2];
+            let number = timed(&mut ours, || bridge_season::telemetry(black_box(one), &mut ratios));
+            let of_rust = [told[0].owned_dof_imbalance, told[0].local_nnz_imbalance];
+            assert_eq!((number, ratios.map(f64::to_bits)), (0, of_rust.map(f64::to_bits)), "{}", run.name);
+        } else {
+            let mut totals = [0; 4];
+            let number = timed(&mut ours, || bridge_season::sites_balance(black_box(&lent), &mut totals));
+            let cut: usize = told.iter().map(|told| told.cut_nnz / 2).sum();
+            assert_eq!((number, totals, cut as u64), (0, expected, totals[2]), "{}", run.name);
+        }
+    }
+    (ours, rust)
+}
+
+/// The table of telemetry, after an empty line.
+fn telemetry_runs(runs: &[Run], times: u32) {
+    println!("\n| site | n | m | k | the Rust, ms | the library, ms | times as fast |");
+    println!("|---|---|---|---|---|---|---|");
+    for run in runs {
+        let (ours, rust) = measure_run(run, times);
+        let ratio = rust.as_secs_f64() / ours.as_secs_f64();
+        let [n, m, k] = [0, 1, 2].map(|place| run.sites.iter().map(|one| one.sizes()[place]).sum::<u32>());
+        println!("| {} | {n} | {m} | {k} | {:.3} | {:.3} | {ratio:.1} |", run.name, ms(rust), ms(ours));
+    }
+}
+
 fn main() {
     let (mut times, mut only) = (5u32, Vec::new());
     let mut words = std::env::args().skip(1);
@@ -351,6 +426,7 @@ fn main() {
     let rows: Vec<Row> = rows().into_iter().filter(|row| chosen(&row.name)).collect();
     let weeks: Vec<Week> = weeks().into_iter().filter(|week| chosen(week.name)).collect();
     let windows: Vec<Windows> = all_windows().into_iter().filter(|row| chosen(row.name)).collect();
+    let runs: Vec<Run> = runs().into_iter().filter(|run| chosen(&run.name)).collect();
     if !rows.is_empty() {
         divisions(&rows, times);
     }
@@ -359,5 +435,8 @@ fn main() {
     }
     if !windows.is_empty() {
         season_windows(&windows, times);
+    }
+    if !runs.is_empty() {
+        telemetry_runs(&runs, times);
     }
 }
