@@ -21,8 +21,8 @@
 //!
 //! A row of the fourth table is a site and a number of ranks, to which the vertices belong in runs of equal length, or in turn, so that
 //! nearly all links are cut; the last row is sixteen of these sites. The Rust (`partition_telemetry_assignment`, on each of the sites)
-//! gets its matrix and its assignment ready made, and finds the remote vertices of each rank too; the library tests lists and owners.
-//! Both run in turn, ten times NUMBER times.
+//! gets its matrix and its assignment ready made, and finds the remote vertices of each rank too; the library tests lists and owners,
+//! and its list test is timed by itself too. All run in turn, ten times NUMBER times.
 use compare::{bridge, bridge_season};
 use reference::answers::{self, MAX_VERTICES, Options, lent_needs};
 use reference::crane::{self, LAST_DAY, MAX_VISITS};
@@ -375,9 +375,9 @@ fn runs() -> Vec<Run> {
     runs
 }
 
-/// The least times of the library and of the Rust. A difference ends the run.
-fn measure_run(run: &Run, times: u32) -> (Duration, Duration) {
-    let (mut ours, mut rust) = (Duration::MAX, Duration::MAX);
+/// The least times of the library, of its list test by itself, and of the Rust. A difference ends the run.
+fn measure_run(run: &Run, times: u32) -> [Duration; 3] {
+    let [mut ours, mut test, mut rust] = [Duration::MAX; 3];
     let assignment = |one: &Divided| PartitionAssignment::from_owners(one.ranks, one.owners.clone());
     let ready = |one: &Divided| (answers::matrix(&one.site), assignment(one).expect("good owners"));
     let ready: Vec<_> = run.sites.iter().map(ready).collect();
@@ -386,6 +386,8 @@ fn measure_run(run: &Run, times: u32) -> (Duration, Duration) {
     for _ in 0..10 * times {
         let all = || ready.iter().map(|(matrix, owners)| partition_telemetry_assignment(black_box(matrix), owners));
         let told: Vec<_> = timed(&mut rust, || all().map(|told| told.expect("an owner for each vertex")).collect());
+        let sound = |one: &Divided| bridge::lists_cause(&one.site.offsets, black_box(&one.site.neighbors)) == 0;
+        assert!(timed(&mut test, || run.sites.iter().all(sound)), "{}", run.name);
         if let [one] = &run.sites[..] {
             let mut ratios = [0.0; 2];
             let number = timed(&mut ours, || bridge_season::telemetry(black_box(one), &mut ratios));
@@ -398,18 +400,19 @@ fn measure_run(run: &Run, times: u32) -> (Duration, Duration) {
             assert_eq!((number, totals, cut as u64), (0, expected, totals[2]), "{}", run.name);
         }
     }
-    (ours, rust)
+    [ours, test, rust]
 }
 
 /// The table of telemetry, after an empty line.
 fn telemetry_runs(runs: &[Run], times: u32) {
-    println!("\n| site | n | m | k | the Rust, ms | the library, ms | times as fast |");
-    println!("|---|---|---|---|---|---|---|");
+    println!("\n| site | n | m | k | the Rust, ms | the library, ms | of it the list test, ms | times as fast |");
+    println!("|---|---|---|---|---|---|---|---|");
     for run in runs {
-        let (ours, rust) = measure_run(run, times);
+        let [ours, test, rust] = measure_run(run, times);
         let ratio = rust.as_secs_f64() / ours.as_secs_f64();
         let [n, m, k] = [0, 1, 2].map(|place| run.sites.iter().map(|one| one.sizes()[place]).sum::<u32>());
-        println!("| {} | {n} | {m} | {k} | {:.3} | {:.3} | {ratio:.1} |", run.name, ms(rust), ms(ours));
+        let [rust, ours, test] = [rust, ours, test].map(ms);
+        println!("| {} | {n} | {m} | {k} | {rust:.3} | {ours:.3} | {test:.3} | {ratio:.1} |", run.name);
     }
 }
 
