@@ -1,4 +1,6 @@
 // Loads and links: rules 1 and 2 of document 01, the neighbor query and the list test, workloads, options and stats, parts of the lent work slice.
+#![tactic(auto)]
+
 mod cut;
 mod lists;
 mod loads;
