@@ -1,4 +1,6 @@
 // Request P10: are two divisions of a site the same, and if not, which comes first?
+#![tactic(auto)]
+
 mod division;
 mod numbers;
 mod order;

@@ -101,8 +101,9 @@ unfolding cells last
 cells-push links t j h zero l e d = rw (e, get_or-set_same links h j 0 (rw (← e) l))
 cells-push links t j h (suc n) l e d =
     let h' = at links h in
-    let i : elem t (cells links h' (suc n)) ≡ true = rw e (last-in h' (cells links (at links h') n)) in
-    let ne : h ≡ t → ⊥ = λ q. true≢false (sym i ∙ rw (← q) d.0) in
+    let i : elem t (cells links h' (suc n)) ≡ true =
+    subst (λ (z : ℕ). elem z (cells links h' (suc n)) ≡ true) (sym e) (last-in h' (cells links (at links h') n)) in
+    let ne : h ≡ t → ⊥ = λ q. true≢false (sym i ∙ subst (λ (z : ℕ). elem z (cells links h' (suc n)) ≡ false) q d.0) in
     rw (get_or-set_other links t h j 0 ne) (ap (λ (c : List ℕ). h ∷ c) (cells-push links t j h' n l e d.1))
 
 pub concat-snoc : (f : ℕ → List ℕ) (xs : List ℕ) (j : ℕ) → concat_map f (xs ++ (j ∷ [])) ≡ concat_map f xs ++ f j

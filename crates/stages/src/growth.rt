@@ -46,7 +46,7 @@ fn is_open(weights: &[u32], owners: &[u32], load: u32, cap: u64, g: u32) -> bool
 }
 
 // A place in a chain: an entry, a place in its row, and how many entries there are from this one on.
-#[derive(Drop)]
+#[derive(Clone, Copy)]
 pub struct Cursor {
     pub head: u32,
     pub place: u32,
@@ -179,7 +179,7 @@ fn first_open(
 
 // Where a growth lies in the work slice: the level; its order by degree; the ranks' seeds; a link of a chain for each group; then, for each rank, its load, and its
 // chain's head, tail, place in the head's row, and number of entries.
-#[derive(Drop)]
+#[derive(Clone, Copy)]
 pub struct GrowthRoom {
     pub level: HierarchyLevel,
     pub ranks: usize,

@@ -1,7 +1,7 @@
 // A level in the lent work slice.
 
 // Where a level lies: n + 1 offsets and m neighbors; n weights; each vertex's group on the next coarser level; each vertex's owner.
-#[derive(Drop)]
+#[derive(Clone, Copy)]
 pub struct HierarchyLevel {
     pub vertices: usize,
     pub entries: usize,
@@ -13,7 +13,7 @@ pub struct HierarchyLevel {
 }
 
 // What a rank's load is held to.
-#[derive(Drop)]
+#[derive(Clone, Copy)]
 pub struct Limits {
     pub ranks: usize,
     pub floor: u64,

@@ -1,4 +1,6 @@
 // The five stages of a division: coarsening, seeds, growth, moves, swaps (rules 3 to 7 of document 01), over one lent work slice.
+#![tactic(auto)]
+
 mod coarsen;
 mod growth;
 mod keys;

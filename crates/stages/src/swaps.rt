@@ -22,7 +22,7 @@ const NO_GAIN: u32 = 32768;
 
 // What the swaps work on: the level and the limits; a used flag for each vertex; a load and a tally for each rank; for each ordered
 // rank pair a list of so many candidates, in 12 numbers.
-#[derive(Drop)]
+#[derive(Clone, Copy)]
 pub struct SwapRoom {
     pub level: HierarchyLevel,
     pub limits: Limits,

@@ -1,4 +1,6 @@
 // Telemetry: how evenly a site's vertices and entries are shared out, and the sums over several sites.
+#![tactic(auto)]
+
 mod ratio;
 mod site;
 mod sites;

@@ -1,4 +1,6 @@
 // Visits of a season, day by day: the day of each visit in its rank's windows, and the busiest days.
+#![tactic(auto)]
+
 mod crane;
 mod season;
 mod windows;

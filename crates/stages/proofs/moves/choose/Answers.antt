@@ -1,0 +1,41 @@
+-- No rank tempts v, so that it has no target; or the tallies are made and cleared again, so that the slice is as it was. Assumes nothing.
+use Prim.Native.Nat.{◌+◌}
+use mathlib.Core.Path.{refl}
+use native.Mathlib.Omega.{arith}
+use Rattle.stages.specs.Level.{rows_at, weights_at, owners_at}
+use Rattle.stages.proofs.MovesTurnLaws.{tallies-roomed, weighed-kept, target-kept, cleared-again, no-offer}
+use Rattle.stages.proofs.moves.choose.Goals as goal
+
+pub tempted-requires : goal.tempted-requires
+tempted-requires c = (c.requires.0.weighed, c.requires.1)
+
+pub overflow_add-tallies : goal.overflow_add-tallies
+overflow_add-tallies c = record { fits = omega (arith, c.requires.0.weighed.room, c.well_formed.0.0) }
+
+pub tally-requires : goal.tally-requires
+tally-requires c = (tallies-roomed c.requires.0.weighed, c.requires.1, c.requires.0.clear)
+
+pub best_offer-best-requires : goal.best_offer-best-requires
+best_offer-best-requires c =
+    let t = c.tally.ensures in
+    (weighed-kept c.requires.0.weighed t.1, c.requires.1, t.0)
+
+pub clear_tallies-requires : goal.clear_tallies-requires
+clear_tallies-requires c =
+    let t = c.tally.ensures in
+    (tallies-roomed (weighed-kept c.requires.0.weighed t.1), c.requires.1, t.0)
+
+pub returns-then-tempted : goal.returns-then-tempted
+returns-then-tempted c =
+    let t = c.tally.ensures in
+    let u = c.clear_tallies.ensures in (
+      target-kept c.requires.0.weighed t.1 c.args.limits c.args.v _ c.best_offer-best.ensures,
+      cleared-again c.args.work.now _ _ (c.args.scratch + c.args.limits.ranks) c.args.limits.ranks c.requires.0.clear t.1 u.0
+          u.1,
+    )
+
+pub returns : goal.returns
+returns c =
+    let s = c.args in
+    let w = s.work.now in
+    (no-offer s.limits (rows_at w s.l) (weights_at w s.l) (owners_at w s.l) s.v c.tempted.result c.tempted.ensures c.if-tempted.false, refl)
