@@ -4,7 +4,7 @@ ghost use Rattle.links.specs.Options.{bad_list_length, bad_swaps, options_cause,
 
 use crate::loads::{between, saturating_add, saturating_mul};
 
-#[derive(Drop)]
+#[derive(Clone, Copy)]
 pub struct AbtmMultilevelOptions {
     pub max_levels: u64,
     pub coarse_vertices_per_rank: u64,

@@ -6,7 +6,7 @@ ghost use Rattle.multilevel.specs.Causes.{call_of, bad_counts, over_limits, work
 use links::{AbtmMultilevelOptions, index, lists_cause, vertex_count, wide, workloads_cause};
 
 // What is asked of a division: for how many ranks, and by which options.
-#[derive(Drop)]
+#[derive(Clone, Copy)]
 pub struct Terms {
     pub ranks: u32,
     pub options: AbtmMultilevelOptions,

@@ -42,7 +42,7 @@ impl Answer {
 
 // What a division goes by: the limits of a load, the passes of moves, what the swaps go by, where coarsening stops; and in the work slice the room
 // of a level and where the stages' own room begins.
-#[derive(Drop)]
+#[derive(Clone, Copy)]
 pub struct Rules {
     pub limits: Limits,
     pub passes: u64,

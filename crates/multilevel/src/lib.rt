@@ -1,4 +1,6 @@
 // The driver (rule 8 of document 01), the link file (rule 9) and the season planner's calls, over the promises of links and stages.
+#![tactic(auto)]
+
 mod causes;
 mod driver;
 mod file;

@@ -34,7 +34,7 @@ pub struct SwapRoom {
 }
 
 // What the swaps go by: how many candidates a list has, and the most passes.
-#[derive(Drop)]
+#[derive(Clone, Copy)]
 pub struct Swapping {
     pub list_length: usize,
     pub passes: u64,

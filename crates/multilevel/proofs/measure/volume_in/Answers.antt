@@ -1,0 +1,29 @@
+use Prim.Native.Nat.{◌-◌}
+use native.Mathlib.Omega.{arith}
+use Rattle.multilevel.proofs.MeasureLaws.{measurable-kept, summing-none, summing-more, summing-done}
+use Rattle.multilevel.proofs.measure.volume_in.Goals as goal
+
+pub loop-v-init : goal.loop-v-init
+loop-v-init c = summing-none _ _ _ _ c.requires.0 c.requires.1
+
+pub meet_vertex-x-requires : goal.meet_vertex-x-requires
+meet_vertex-x-requires c =
+    (measurable-kept _ _ _ _ _ c.loop-v.invariant.frame c.requires.0, c.loop-v-test.true, c.loop-v.invariant.marks)
+
+pub overflow_add-x : goal.overflow_add-x
+overflow_add-x c =
+    let t = summing-more _ _ _ _ c.requires.0 c.loop-v.work c.loop-v.x c.loop-v.v c.loop-v.invariant c.loop-v-test.true c.meet_vertex-x.new.work c.meet_vertex-x.result c.meet_vertex-x.ensures in
+    omega (arith, t.small, c.requires.0.ready.few)
+
+pub loop-v-smaller : goal.loop-v-smaller
+loop-v-smaller c = omega arith
+
+pub loop-v-preserved : goal.loop-v-preserved
+loop-v-preserved c =
+    summing-more _ _ _ _ c.requires.0 c.loop-v.work c.loop-v.x c.loop-v.v c.loop-v.invariant c.loop-v-test.true c.meet_vertex-x.new.work c.meet_vertex-x.result c.meet_vertex-x.ensures
+
+pub shape_of-work : goal.shape_of-work
+shape_of-work c = c.loop-v.invariant.frame.same_length
+
+pub returns : goal.returns
+returns c = summing-done _ _ _ _ c.requires.0 c.loop-v.work c.loop-v.x c.loop-v.v c.loop-v.invariant c.loop-v-test.false
