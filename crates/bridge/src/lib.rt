@@ -1,4 +1,6 @@
 // The library over numbers and slices, for a caller in another language: oracle/ links it and compares its answers with the Rust's.
+#![tactic(auto)]
+
 ghost use Rattle.std.specs.Prelude.{◌≡◌, cond, length, ltb};
 ghost use Rattle.links.specs.Lists.{at};
 ghost use Rattle.links.specs.Loads.{load_cap, minimum_load};

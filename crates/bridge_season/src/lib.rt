@@ -1,5 +1,7 @@
 // The visits of a season, the telemetry and the comparison of divisions over numbers and slices, for a caller in another language: oracle/ links it and
 // compares its answers with second readings, and the ratios with the Rust's.
+#![tactic(auto)]
+
 ghost use Rattle.std.specs.Prelude.{◌≡◌, cond, length};
 ghost use Rattle.visits.specs.Crane.{bad_visits, most_visits, earliest_day};
 ghost use Rattle.visits.specs.Season.{season_cause, visits_after};

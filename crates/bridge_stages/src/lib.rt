@@ -3,6 +3,8 @@
 // level beyond the limits (the weights add up to less than 2^31), 4 for unsound lists, 5 where there is not a weight and an owner for each vertex
 // or the work slice is too short, 12 for an owner that is no rank; or the stage's own number. What a stage makes is left in the work slice, at the
 // places of specs/Lent.antt.
+#![tactic(auto)]
+
 mod lent;
 
 ghost use Rattle.bridge_stages.specs.Lent.{lent};

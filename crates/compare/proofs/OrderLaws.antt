@@ -62,9 +62,9 @@ lesser-twice a b = decided a b
 
 -- ---- one key after another
 
--- a key that decides is the answer: its tag is not that of Same
-pub decides : (o : Order) → OneOf (1 ∷ 2 ∷ 3 ∷ []) (tag_of the_type o) → is_same o ≡ false
-decides Same k = ⊎_elim (λ e. absurd (omega (arith, e))) (λ r. ⊎_elim (λ e. absurd (omega (arith, e))) (λ e. absurd (omega (arith, e))) r) k
+-- a key that decides is the answer
+pub decides : (o : Order) → (o ≡ Same → ⊥) → is_same o ≡ false
+decides Same k = absurd (k refl)
 decides First k = refl
 decides Second k = refl
 decides (Refused number) k = refl

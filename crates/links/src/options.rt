@@ -14,7 +14,7 @@ pub struct AbtmMultilevelOptions {
     pub swap_pass_factor: u64,
 }
 
-#[derive(Drop)]
+#[derive(Clone, Copy)]
 pub struct AbtmMultilevelStats {
     pub levels_built: u64,
     pub coarsest_vertices: u64,

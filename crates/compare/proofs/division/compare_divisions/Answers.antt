@@ -26,7 +26,7 @@ pub returns-in_default : goal.returns-in_default
 returns-in_default c =
     let a = c.args in
     compared-told a.offsets.now a.neighbors.now a.ranks a.first.now a.second.now _ (sym c.comparison_cause-cause.ensures ∙ c.if-cause-ne0.false) c.order_of-order.ensures
-    (renaming-none a.ranks a.first.now a.second.now c.order_of-order.result (decides c.order_of-order.result c.in_default.keys2))
+    (renaming-none a.ranks a.first.now a.second.now c.order_of-order.result (decides c.order_of-order.result c.in_default.not-Same))
 
 pub renaming_of-requires : goal.renaming_of-requires
 renaming_of-requires c =

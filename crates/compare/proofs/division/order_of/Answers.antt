@@ -7,7 +7,7 @@ use Rattle.compare.proofs.division.order_of.Goals as goal
 pub returns-in_default : goal.returns-in_default
 returns-in_default c =
     let p = c.requires in
-    cut-decides _ _ _ _ p.0 p.1 _ _ c.cut_entries-a.ensures c.cut_entries-b.ensures _ c.lesser_first-order.ensures (decides c.lesser_first-order.result c.in_default.keys2)
+    cut-decides _ _ _ _ p.0 p.1 _ _ c.cut_entries-a.ensures c.cut_entries-b.ensures _ c.lesser_first-order.ensures (decides c.lesser_first-order.result c.in_default.not-Same)
 
 pub by_owners-requires : goal.by_owners-requires
 by_owners-requires c =

@@ -23,7 +23,7 @@ returns-in_default c =
     let a = c.args in
     let key : c.lesser_first-order.result ≡ lesser_first (at a.one.now (at a.first.now c.loop-v.v)) (at a.other.now (at a.second.now c.loop-v.v)) =
     c.lesser_first-order.ensures ∙ rw (c.number_of.ensures, c.number_of-in-loop-v.ensures) in
-    by-decided (at a.one.now) (at a.other.now) a.first.now a.second.now _ c.loop-v.v c.loop-v.invariant c.loop-v-test.true c.requires.2 _ key (decides c.lesser_first-order.result c.in_default.keys2)
+    by-decided (at a.one.now) (at a.other.now) a.first.now a.second.now _ c.loop-v.v c.loop-v.invariant c.loop-v-test.true c.requires.2 _ key (decides c.lesser_first-order.result c.in_default.not-Same)
 
 pub loop-v-smaller : goal.loop-v-smaller
 loop-v-smaller c = omega arith

@@ -6,4 +6,4 @@ use Rattle.compare.proofs.numbers.by_owners.Goals as goal
 pub returns : goal.returns
 returns c =
     let a = c.args in
-    c.by_numbers.ensures ∙ rw (numbered a.first.now _ c.Numbers-of.ensures c.requires.0, numbered a.second.now _ c.numbers_of-other.ensures c.requires.1)
+    c.by_numbers.ensures ∙ rw (numbered a.first.now _ c.numbers_of-one.ensures c.requires.0, numbered a.second.now _ c.numbers_of-other.ensures c.requires.1)

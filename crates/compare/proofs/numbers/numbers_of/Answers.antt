@@ -18,7 +18,7 @@ loop-v-smaller c = omega arith
 pub loop-v-preserved : goal.loop-v-preserved
 loop-v-preserved c =
     let low = all-place (λ o. o < 256) c.args.owners.now c.loop-v.v c.requires.0 c.loop-v-test.true in
-    numbering-more _ _ _ _ c.loop-v.invariant c.loop-v-test.true low c.requires.1 _ _ _ c.index.ensures c.meet-count.ensures.1 c.meet-count.ensures.0
+    numbering-more _ _ _ _ c.loop-v.invariant c.loop-v-test.true low c.requires.1 _ _ _ c.index.ensures c.meet-count.ensures.numbers c.meet-count.ensures.count
 
 pub returns : goal.returns
 returns c = numbering-done _ _ _ _ c.loop-v.invariant c.loop-v-test.false
