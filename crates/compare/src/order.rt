@@ -4,7 +4,7 @@ ghost use Rattle.compare.specs.Order.{lesser_first};
 ghost use Rattle.compare.specs.Comparison.{order_number, order_code};
 
 // They are the same, or which comes first; or a refusal.
-#[derive(Drop)]
+#[derive(Clone, Copy)]
 pub enum Order {
     Same,
     First,

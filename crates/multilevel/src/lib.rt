@@ -1,4 +1,4 @@
-// The driver (rule 8 of document 01), the link file (rule 9) and the season planner's calls, over the promises of links and stages.
+// The driver (rule 8 of document 01) and the link file (rule 9), over the promises of links and stages.
 #![tactic(auto)]
 
 mod causes;
@@ -7,7 +7,6 @@ mod file;
 mod lay;
 mod measure;
 mod room;
-mod season;
 mod takeover;
 mod writeback;
 

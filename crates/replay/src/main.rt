@@ -2,9 +2,14 @@
 // after another on standard output. Its files stdin and stdout are requests and the Rust's answers to them, which oracle/replay.sh writes.
 //
 // It ends with the input, with a request that is cut short, and with a length above 2,048, which is more than any request here has.
+#![tactic(auto)]
+
 ghost use Rattle.std.specs.Prelude.{◌<◌};
 
-use libc::{STDIN_FILENO, STDOUT_FILENO};
+// the descriptors of standard input and output
+const STDIN: i32 = 0;
+
+const STDOUT: i32 = 1;
 
 fn wide(x: u8) -> usize
     ensures { result < 256 }
@@ -18,18 +23,18 @@ fn length_of(head: [u8; 4]) -> usize {
 
 // A request that fills this slice is read and answered: whether to go on.
 fn answer(file: &mut [u8]) -> bool {
-    if io::read_full(STDIN_FILENO, file) < file.len() {
+    if io::read_full(STDIN, file) < file.len() {
         return false;
     }
     let mut text = [0u8; 2969];
     let written = listing::share(file, &mut text);
-    io::write_all(STDOUT_FILENO, &text[..written])
+    io::write_all(STDOUT, &text[..written])
 }
 
 // One request with its length: whether to go on.
 fn answer_next() -> bool {
     let mut head = [0u8; 4];
-    if io::read_full(STDIN_FILENO, &mut head) < 4 {
+    if io::read_full(STDIN, &mut head) < 4 {
         return false;
     }
     let length = length_of(head);

@@ -65,7 +65,7 @@ returns-then-lists_cause-ne0 c =
     let a = c.args in
     let k = call_of a.offsets.now a.neighbors.now a.workloads.now a.asked.ranks a.asked.options a.owners_length a.work_length in
     let at = goal.at.returns-then-lists_cause-ne0 c in
-        early-is k false false true _ _ (options-pass at.Else-cause-ne0) (counts-pass at.Else-bad_counts) (limits-pass at.Else-over_limits)
+    early-is k false false true _ _ (options-pass at.Else-cause-ne0) (counts-pass at.Else-bad_counts) (limits-pass at.Else-over_limits)
     (lists-bad a.offsets.now a.neighbors.now c.lists_cause.result c.lists_cause.ensures.cause c.if-lists_cause-ne0.true) refl refl
 
 pub returns-then-workloads_cause-ne0 : goal.returns-then-workloads_cause-ne0
@@ -73,7 +73,7 @@ returns-then-workloads_cause-ne0 c =
     let a = c.args in
     let k = call_of a.offsets.now a.neighbors.now a.workloads.now a.asked.ranks a.asked.options a.owners_length a.work_length in
     let at = goal.at.returns-then-workloads_cause-ne0 c in
-        early-is k false false false true _ (options-pass at.Else-cause-ne0) (counts-pass at.Else-bad_counts) (limits-pass at.Else-over_limits)
+    early-is k false false false true _ (options-pass at.Else-cause-ne0) (counts-pass at.Else-bad_counts) (limits-pass at.Else-over_limits)
     (lists-pass at.Else-lists_cause-ne0)
     (workloads-bad (vertex_count a.offsets.now) a.workloads.now c.workloads_cause.result
     (c.workloads_cause.ensures ∙ ap (λ (x : ℕ). workloads_cause x a.workloads.now) c.vertex_count-n.ensures) c.if-workloads_cause-ne0.true) refl

@@ -22,12 +22,11 @@ pub loop-v-smaller : goal.loop-v-smaller
 loop-v-smaller c = omega (arith, c.loop-v-test.true)
 
 pub loop-v-preserved : goal.loop-v-preserved
-loop-v-preserved c =
-    (
-      omega (arith, c.loop-v.invariant.0),
-      lone-next c.args.b.now c.args.n c.loop-v.v (omega (arith, c.loop-v-test.true)) c.loop-v.invariant.0
-          c.loop-v.invariant.1 (sym c.is_lone.ensures ∙ c.if-is_lone.false),
-    )
+loop-v-preserved c = (
+  omega (arith, c.loop-v.invariant.0),
+  lone-next c.args.b.now c.args.n c.loop-v.v (omega (arith, c.loop-v-test.true)) c.loop-v.invariant.0
+      c.loop-v.invariant.1 (sym c.is_lone.ensures ∙ c.if-is_lone.false),
+)
 
 pub returns : goal.returns
 returns c =

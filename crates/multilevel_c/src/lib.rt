@@ -1,9 +1,10 @@
-// The season planner's calls, for a program in C: the cap, the floor and the file check.
+// The season planner's calls, for a program in C: the cap, the floor and the file check, over the promises of links and multilevel. Its archive is
+// libmultilevel.a (planner/run.sh).
+#![tactic(auto)]
+
 ghost use Rattle.std.specs.Prelude.{◌≡◌};
 ghost use Rattle.links.specs.Loads.{load_cap, minimum_load};
 ghost use Rattle.multilevel.specs.File.{file_cause};
-
-use crate::file::link_file_cause;
 
 // Rules out: a product that wraps; a division by no ranks.
 #[unsafe(no_mangle)]
@@ -27,5 +28,5 @@ pub extern "C" fn hipstern_minimum_load(total: u64, ranks: u32, imbalance_per_mi
 pub extern "C" fn hipstern_link_file_cause(file: &[u8]) -> u32
     ensures { result ≡ file_cause file.now }
 {
-    link_file_cause(file)
+    multilevel::link_file_cause(file)
 }
