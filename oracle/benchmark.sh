@@ -6,8 +6,8 @@ set -eu
 cd "$(dirname "$0")/.."
 . oracle/sources.sh benchmark
 
-rt staticlib bridge >&2
-rt staticlib bridge_stages >&2
-rt staticlib bridge_season >&2
+tools/archive.sh bridge >&2
+tools/archive.sh bridge_stages >&2
+tools/archive.sh bridge_season >&2
 cargo build --quiet --release --offline --locked --manifest-path oracle/Cargo.toml
 exec "$CARGO_TARGET_DIR/release/benchmark" "$@"

@@ -13,7 +13,7 @@ made=target/replay
 mkdir -p $made
 if [ "${1:-}" = --many ]; then
   "$replay" many "$2" $made
-  rt check replay >/dev/null
+  tools/program.sh replay
   target/bin/replay <$made/stdin | cmp - $made/stdout
   echo "replay: $(grep -cE '^(refused|levels) ' $made/stdout) random requests with the Rust's answers, $(grep -c ' cut [1-9]' $made/stdout) of them with a cut link"
   exit

@@ -6,8 +6,8 @@ set -eu
 cd "$(dirname "$0")/.."
 . oracle/sources.sh oracle
 
-rt staticlib bridge
-rt staticlib bridge_stages
-rt staticlib bridge_season
+tools/archive.sh bridge
+tools/archive.sh bridge_stages
+tools/archive.sh bridge_season
 cargo build --quiet --release --offline --locked --manifest-path oracle/Cargo.toml
 exec "$CARGO_TARGET_DIR/release/compare" "$@"

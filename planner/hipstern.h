@@ -1,7 +1,7 @@
 /*
  * Hipstern's calls for the season planner: the most and the least that a crew's load may be, and the check of a link file.
  *
- * `rt staticlib multilevel` writes the archive to link, target/staticlib/libmultilevel.a (Linux, x86-64), and a program is
+ * `tools/archive.sh multilevel` writes the archive to link, target/staticlib/libmultilevel.a (Linux, x86-64), and a program is
  * built over it by `cc -I planner program.c target/staticlib/libmultilevel.a`. The calls keep nothing between them, allocate
  * nothing and write nothing: any number of threads may make them at once. The header serves C99 and C++.
  * planner.c uses all three, and planner/run.sh builds it; caps.cpp is a program in C++.

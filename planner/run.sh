@@ -10,7 +10,7 @@ rm -rf "$made"
 samples/make.sh "$made"
 diff -r --exclude=README.md --exclude="*.sh" --exclude=expected.txt --exclude=.gitattributes samples "$made"
 
-rt staticlib multilevel
+tools/archive.sh multilevel
 archive=target/staticlib/libmultilevel.a
 cc -std=c99 -Wall -Wextra -Werror -O2 -o target/planner/planner planner/planner.c $archive
 target/planner/planner samples/*.links | diff planner/expected.txt -

@@ -1,4 +1,4 @@
-// The archives of crates bridge, bridge_stages and bridge_season, as rt staticlib writes them: target/staticlib/lib*.a at the
+// The archives of crates bridge, bridge_stages and bridge_season, as tools/archive.sh writes them: target/staticlib/lib*.a at the
 // repository's root.
 use std::path::PathBuf;
 

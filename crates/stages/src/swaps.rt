@@ -20,6 +20,9 @@ use links::{between, holds, index, wide};
 // What the gains of two candidates that gain nothing add up to.
 const NO_GAIN: u32 = 32768;
 
+// The gain, reckoned from present owners, of a swap that is not made.
+const NO_SWAP_GAIN: u32 = 0;
+
 // What the swaps work on: the level and the limits; a used flag for each vertex; a load and a tally for each rank; for each ordered
 // rank pair a list of so many candidates, in 12 numbers.
 #[derive(Clone, Copy)]
@@ -317,7 +320,7 @@ fn applies(w: &[u32], s: SwapRoom, u: usize, v: usize) -> bool
     if w[used + v] != 0 {
         return false;
     }
-    if swap_gain(w, s, u, v) == 0 {
+    if swap_gain(w, s, u, v) == NO_SWAP_GAIN {
         return false;
     }
     if trades_fairly(w, s, u, v) {

@@ -20,17 +20,17 @@ returns-then-w-used-ne0-2 c =
     let p = c.requires in
     λ used m. test-2 _ _ _ _ _ _ (applies-is a.w.now a.s used m a.u a.v p.1 p.2) (eq-eqb _ _ c.if-w-used-ne0.false) (ne_eqb _ _ c.if-w-used-ne0-2.true)
 
-pub returns-then-swap_gain-eq0 : goal.returns-then-swap_gain-eq0
-returns-then-swap_gain-eq0 c =
+pub returns-then-swap_gain-eq-NO_SWAP_GAIN : goal.returns-then-swap_gain-eq-NO_SWAP_GAIN
+returns-then-swap_gain-eq-NO_SWAP_GAIN c =
     let a = c.args in
     let p = c.requires in
-    λ used m. test-3 _ _ _ _ _ _ (applies-is a.w.now a.s used m a.u a.v p.1 p.2) (eq-eqb _ _ c.if-w-used-ne0.false) (eq-eqb _ _ c.if-w-used-ne0-2.false) (gains-not _ c.swap_gain.result c.swap_gain.ensures c.if-swap_gain-eq0.true)
+    λ used m. test-3 _ _ _ _ _ _ (applies-is a.w.now a.s used m a.u a.v p.1 p.2) (eq-eqb _ _ c.if-w-used-ne0.false) (eq-eqb _ _ c.if-w-used-ne0-2.false) (gains-not _ c.swap_gain.result c.swap_gain.ensures c.if-swap_gain-eq-NO_SWAP_GAIN.true)
 
 pub returns-then-trades_fairly : goal.returns-then-trades_fairly
 returns-then-trades_fairly c =
     let a = c.args in
     let p = c.requires in
-    let g = gains _ c.swap_gain.result c.swap_gain.ensures c.if-swap_gain-eq0.false in
+    let g = gains _ c.swap_gain.result c.swap_gain.ensures c.if-swap_gain-eq-NO_SWAP_GAIN.false in
     let d = swap-ranks (rows_at a.w.now a.s.level) (owners_at a.w.now a.s.level) a.u a.v (ltb-true _ _ g) in
     λ used m. test-5 _ _ _ _ _ _ (applies-is a.w.now a.s used m a.u a.v p.1 p.2) c.trades_fairly-then-trades_fairly.result (eq-eqb _ _ c.if-w-used-ne0.false) (eq-eqb _ _ c.if-w-used-ne0-2.false) g
     (sym (first-kept p.0 a.u a.v p.1 p.2 d) ∙ sym c.trades_fairly.ensures ∙ c.if-trades_fairly.true)
@@ -40,7 +40,7 @@ pub returns : goal.returns
 returns c =
     let a = c.args in
     let p = c.requires in
-    let g = gains _ c.swap_gain.result c.swap_gain.ensures c.if-swap_gain-eq0.false in
+    let g = gains _ c.swap_gain.result c.swap_gain.ensures c.if-swap_gain-eq-NO_SWAP_GAIN.false in
     let d = swap-ranks (rows_at a.w.now a.s.level) (owners_at a.w.now a.s.level) a.u a.v (ltb-true _ _ g) in
     λ used m. test-4 _ _ _ _ _ _ (applies-is a.w.now a.s used m a.u a.v p.1 p.2) (eq-eqb _ _ c.if-w-used-ne0.false) (eq-eqb _ _ c.if-w-used-ne0-2.false) g
     (sym (first-kept p.0 a.u a.v p.1 p.2 d) ∙ sym c.trades_fairly.ensures ∙ c.if-trades_fairly.false)
