@@ -8,8 +8,6 @@ use native.Mathlib.Omega.{arith}
 use lib.ListN.{length, length-map}
 use lib.Dec.{eqb, ltb}
 use borrow.Author.Tests.{eqb-true, lt-ltb, le-ltb, ltb-true, ltb-false}
-use denote.Enum.Declared.{tag_of}
-use types.Run.{OneOf}
 use Rattle.links.specs.Lists.{elem}
 use Rattle.links.specs.Graph.{links_cut, Sound, owned}
 use Rattle.links.specs.Owners.{from_owners}
@@ -19,7 +17,6 @@ use Rattle.compare.specs.declared.order.Order.{Order}
 use Rattle.compare.specs.declared.order.Order.TheVariants.{Same, First, Second, Refused}
 use Rattle.compare.specs.Order.{appearing, place_of, renumbered, lesser_first, then_by, by_numbers, order_of, exchange, is_same, renamed}
 use Rattle.compare.specs.Ordered.{Renames, Division, Ordered}
-use Rattle.compare.specs.contracts.order.Order.{the_type}
 use Rattle.compare.proofs.RenamedLaws.{renumbered-renamed, cut-renamed, same-renames, renamed_by}
 
 -- ---- one key

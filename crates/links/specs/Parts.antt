@@ -1,6 +1,6 @@
 -- Parts of the lent work slice: what `&s[a..e]` has, what `&mut s[a..e]` leaves, and what a function that lends a part leaves alone.
 -- Assumes nothing.
-use Rattle.std.specs.Prelude.{ℕ, zero, suc, ◌+◌, ◌-◌, ◌≤◌, ◌<◌, ◌≡◌, List, [], ◌∷◌, ◌++◌, length, take, drop, replicate}
+use Rattle.std.specs.Prelude.{ℕ, zero, suc, ◌-◌, ◌≤◌, ◌<◌, ◌≡◌, List, [], ◌∷◌, ◌++◌, length, take, drop, replicate}
 use Rattle.links.specs.Lists.{at}
 
 -- the numbers from a up to e, as `&s[a..e]` has them

@@ -6,7 +6,7 @@ use native.Mathlib.Nat.{mul_assoc}
 use native.Mathlib.Omega.{arith}
 use lib.ListN.{length, take, drop, replicate, length-append}
 use lib.Seq.{length-take-le, drop_at}
-use Rattle.links.specs.Lists.{at, foldl}
+use Rattle.links.specs.Lists.{foldl}
 use Rattle.links.specs.Parts.{filled_part}
 use Rattle.links.specs.Loads.{Balance, balance}
 use Rattle.links.specs.Graph.{vertex_count, cut_entries, volume}

@@ -7,7 +7,7 @@ use native.Mathlib.Omega.{arith}
 use lib.ListN.{length}
 use lib.Dec.{eqb}
 use borrow.Author.Tests.{eqb-true, eqb-false}
-use Rattle.links.specs.Lists.{at, All, unassigned, any}
+use Rattle.links.specs.Lists.{All, unassigned, any}
 use Rattle.links.specs.Parts.{Kept}
 use Rattle.links.specs.Owners.{from_owners}
 use Rattle.links.specs.Options.{zero_stats, added_moves, grown_stats}

@@ -18,7 +18,7 @@ use Rattle.links.proofs.ListLaws.{split, and_i, and_r, all_filter, all_append, a
 use Rattle.links.proofs.RowLaws.{get_or-map-range, all-place, by_place, elem-place}
 use Rattle.stages.proofs.GrowthLaws.{unowned-in}
 use Rattle.stages.proofs.LoadLaws.{load_by, by_index}
-use Rattle.stages.proofs.LoadSetLaws.{Load-set, load-holds}
+use Rattle.stages.proofs.LoadSetLaws.{load-set, load-holds}
 use Rattle.stages.proofs.GroupingLaws.{touched, touched-of, elem-row, Grouped, apart, all-match, by_degree-below, unmatched-grouped, pairing-covers, coarse-sound, coarse-sized, coarse-weighed, groups-weigh}
 
 -- ---- two of one rank, or of one group
@@ -35,7 +35,7 @@ pub load-two
 load-two ws os v w d h k j e =
     let r = at os v in
     let there = set os v (suc r) in
-    let moved = simp (eq-eqb r r refl, ne_eqb (suc r) r (λ z. omega arith)) at (Load-set ws os v (suc r) r h k) in
+    let moved = simp (eq-eqb r r refl, ne_eqb (suc r) r (λ z. omega arith)) at (load-set ws os v (suc r) r h k) in
     let owner : at there w ≡ r = get_or-set_other os v w (suc r) 0 (λ z. d (sym z)) ∙ e in
     let rest : at ws w ≤ load ws there r = rw owner at (load-holds ws there w (rw (length-set os v (suc r)) j)) in
     omega arith
@@ -168,16 +168,16 @@ module _ (rows : List (List ℕ)) (s : Sound rows) (ws : List ℕ) (small : leng
       go e none q = either-single rows s p.group v (length p.weights) h e either q
       go e (some u) q = either-pair rows s p.group v (length p.weights) h e either u (λ z. omega (arith, g.room)) q
 
-  All-either
+  all-either
       : (vs : List ℕ)
       → All (λ v. v < length rows) vs
       → (p : Pairing)
       → Grouped (length rows) ws p
       → EitherPaired rows p.group
       → EitherPaired rows (foldl (match rows ws) p vs).group
-  All-either [] a p g either = either
-  All-either (v ∷ vs) a p g either =
-      All-either vs a.1 (match rows ws p v) (all-match rows s ws small weighed (v ∷ []) (a.0, tt) p g) (match-either p v a.0 g either)
+  all-either [] a p g either = either
+  all-either (v ∷ vs) a p g either =
+      all-either vs a.1 (match rows ws p v) (all-match rows s ws small weighed (v ∷ []) (a.0, tt) p g) (match-either p v a.0 g either)
 
   -- after a step, of two linked vertices one is paired
   pub step-paired
@@ -187,7 +187,7 @@ module _ (rows : List (List ℕ)) (s : Sound rows) (ws : List ℕ) (small : leng
       → Paired rows (coarsen_once rows ws).group v ⊎ Paired rows (coarsen_once rows ws).group u
   unfolding coarsen_once pairing unmatched
   step-paired v u h l =
-      All-either (by_degree rows) (by_degree-below rows) (unmatched (length rows)) (unmatched-grouped rows s ws small weighed)
+      all-either (by_degree rows) (by_degree-below rows) (unmatched (length rows)) (unmatched-grouped rows s ws small weighed)
       (λ x y k m d. absurd (d (get_or-replicate (length rows) x unassigned 0 k)))
       v u h l (pairing-covers rows s ws small weighed v h)
 

@@ -21,7 +21,7 @@ use Rattle.links.proofs.RowLaws.{all-place}
 use Rattle.stages.proofs.StepLaws.{Along, destination-of, moves-along}
 use Rattle.stages.proofs.GrowthLaws.{Takes, Taking, turn-takes, growth-along, length-grown, length-seed_owners}
 use Rattle.stages.proofs.GrowthStageLaws.{seeds-good}
-use Rattle.stages.proofs.LoadSetLaws.{Load-set, load-holds}
+use Rattle.stages.proofs.LoadSetLaws.{load-set, load-holds}
 use Rattle.multilevel.proofs.CheckLaws.{checked}
 use Rattle.multilevel.proofs.PairedLaws.{Weighty}
 
@@ -122,7 +122,7 @@ module _ (b : Balance) (rows : List (List ℕ)) (ws : List ℕ) (weighed : lengt
       → Peopled b.ranks ws o
       → Peopled b.ranks ws (set o v t)
   leaves-peopled o v t n h leaves p r k =
-      let l = Load-set ws o v t r (omega arith) (omega arith) in
+      let l = load-set ws o v t r (omega arith) (omega arith) in
       split (eqb (at o v) r)
       (λ q. let e : load ws o (at o v) ≡ load ws o r = ap (load ws o) (eqb-true (at o v) r q) in omega (arith, simp q at l))
       (λ q. omega (arith, simp q at l, p r k))

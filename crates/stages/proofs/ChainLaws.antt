@@ -170,15 +170,15 @@ module _ (rows : List (List ℕ)) (links : List ℕ) (ok : ℕ → Bool) (b h p 
       )
 
   -- a turn of the search
-  pub Going-on
+  pub going-on
       : (h₁ p₁ n₁ h₂ p₂ n₂ : ℕ)
       → Going rows links ok b h p n h₁ p₁ n₁
       → stops_at rows ok h₁ p₁ n₁ ≡ false
       → Onward rows links h₁ p₁ n₁ h₂ p₂ n₂
       → Next h₁ p₁ n₁ h₂ p₂ n₂
   unfolding stops_at
-  Going-on h₁ p₁ zero h₂ p₂ n₂ g s o = absurd (true≢false s)
-  Going-on h₁ p₁ (suc m) h₂ p₂ n₂ g s o = ⊎_elim
+  going-on h₁ p₁ zero h₂ p₂ n₂ g s o = absurd (true≢false s)
+  going-on h₁ p₁ (suc m) h₂ p₂ n₂ g s o = ⊎_elim
       (λ w. subst (λ (x : ℕ). Next h₁ p₁ (suc m) x p₂ n₂) (sym w.1)
       (subst (λ (x : ℕ). Next h₁ p₁ (suc m) h₁ x n₂) (sym w.2)
       (subst (λ (x : ℕ). Next h₁ p₁ (suc m) h₁ (p₁ + 1) x) (sym w.3)

@@ -8,7 +8,7 @@ use native.Mathlib.Numerals.{add-one}
 use lib.Dec.{eqb}
 use lib.ListN.{length}
 use borrow.Author.Tests.{eqb-true, eqb-false}
-use Rattle.links.specs.Lists.{at, unassigned, filter, any, foldl, range}
+use Rattle.links.specs.Lists.{unassigned, filter, any, foldl, range}
 use Rattle.links.proofs.ListLaws.{split, count-append, any-counts, none-counts as none_left}
 use Rattle.links.proofs.RangeLaws.{range_snoc}
 use Rattle.stages.specs.Growth.{Growing, Turn, Round, Choice, passes, claims, restarts, is_pass, is_restart, after_turn, turn, round, rounds, restart_count}

@@ -16,16 +16,16 @@ use Rattle.links.proofs.ListLaws.{split}
 use Rattle.stages.specs.Moves.{swap, after}
 
 -- v goes over to rank t: the exact loads after it
-pub Load-set
+pub load-set
     : (ws os : List ℕ) (v t r : ℕ)
     → v < length os
     → v < length ws
     → load ws (set os v t) r + cond (eqb (at os v) r) (at ws v) 0 ≡ load ws os r + cond (eqb t r) (at ws v) 0
 unfolding load
-Load-set [] os v t r h k = absurd (omega arith)
-Load-set (w ∷ ws) [] v t r h k = absurd (omega arith)
-Load-set (w ∷ ws) (o ∷ os) zero t r h k = omega arith
-Load-set (w ∷ ws) (o ∷ os) (suc v) t r h k = omega (arith, Load-set ws os v t r (omega arith) (omega arith))
+load-set [] os v t r h k = absurd (omega arith)
+load-set (w ∷ ws) [] v t r h k = absurd (omega arith)
+load-set (w ∷ ws) (o ∷ os) zero t r h k = omega arith
+load-set (w ∷ ws) (o ∷ os) (suc v) t r h k = omega (arith, load-set ws os v t r (omega arith) (omega arith))
 
 -- a rank's load is part of the total
 pub load-sum : (ws os : List ℕ) (r : ℕ) → load ws os r ≤ sum ws
@@ -68,8 +68,8 @@ load-swap ws os u v r h k e =
     let d : at os₁ v ≡ b = split (eqb v u)
     (λ p. ap (at os₁) (eqb-true v u p) ∙ get_or-set_same os u b 0 h)
     (λ p. get_or-set_other os u v b 0 (eqb-false v u p)) in
-    let q = rw d at (Load-set ws os₁ v (at os u) r (omega arith) (omega arith)) in
-    omega (arith, Load-set ws os u b r h (omega arith), q)
+    let q = rw d at (load-set ws os₁ v (at os u) r (omega arith) (omega arith)) in
+    omega (arith, load-set ws os u b r h (omega arith), q)
 
 -- of two ranks' vertices, the loads that a swap leaves
 module _ (ws os : List ℕ) (u v : ℕ) (h : u < length os) (k : v < length os) (e : length ws ≡ length os) (d : at os u ≡ at os v → ⊥) where

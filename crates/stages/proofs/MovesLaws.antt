@@ -7,7 +7,7 @@ use mathlib.Core.Option.{Option, none, some}
 use native.Mathlib.Omega.{arith}
 use native.Mathlib.Numerals.{add-one}
 use lib.ListN.{length, set, length-append}
-use Rattle.links.specs.Lists.{at, foldl, range, empty, option}
+use Rattle.links.specs.Lists.{foldl, range, empty, option}
 use Rattle.links.specs.Loads.{Balance}
 use Rattle.stages.proofs.StepLaws.{foldl-append}
 use Rattle.stages.specs.Moves.{Step, move, after, Steps, repeat, destination, move_pass}

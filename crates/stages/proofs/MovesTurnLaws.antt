@@ -22,7 +22,7 @@ use Rattle.stages.specs.MovesCode.{Clear, Roomed, Tallied, Weighed, Moving, Shif
 use Rattle.stages.specs.declared.level.HierarchyLevel.{HierarchyLevel}
 use Rattle.stages.specs.declared.level.Limits.{Limits}
 use Rattle.stages.specs.declared.moves.Offer.{Offer}
-use Rattle.stages.proofs.LoadSetLaws.{Load-set, load-sum, load-holds}
+use Rattle.stages.proofs.LoadSetLaws.{load-set, load-sum, load-holds}
 use Rattle.stages.proofs.TallyLaws.{part-snoc, any-cons, any-nothing}
 use Rattle.stages.proofs.TargetLaws.{offer_at, best_offer, target-by-row, target-by-ranks, target-rank, untempted}
 use Rattle.stages.proofs.LevelLaws.{length-neighbors, length-weights, length-owners, all-vertices, row-part, row_ends, rows-kept, weights-kept, owners-kept, ready-kept, ready_by, beneath}
@@ -239,7 +239,7 @@ module _ {w : List ℕ} {l : HierarchyLevel} {scratch ranks : ℕ} (q : Weighed 
 
     moved-load : (r : ℕ) → r < ranks → at more (scratch + r) ≡ load (weights_at w l) (set (owners_at w l) v rank) r
     moved-load r m =
-        let s = Load-set (weights_at w l) (owners_at w l) v rank r (omega (arith, length-owners q.ready)) (omega (arith, length-weights q.ready)) in
+        let s = load-set (weights_at w l) (owners_at w l) v rank r (omega (arith, length-owners q.ready)) (omega (arith, length-weights q.ready)) in
         let s' : load (weights_at w l) (set (owners_at w l) v rank) r + cond (eqb home r) weight 0 ≡ load (weights_at w l) (owners_at w l)
         r + cond (eqb rank r) weight 0 = rw (a, b) s in
         let o = q.loaded r m in

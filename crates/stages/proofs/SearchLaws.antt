@@ -8,7 +8,7 @@ use native.Mathlib.Omega.{arith}
 use lib.Dec.{eqb, ltb}
 use lib.ListN.{length, get_or}
 use borrow.Author.Tests.{eq-eqb, eqb-true, eqb-false, lt-ltb, le-ltb, ltb-true, ltb-false}
-use Rattle.links.specs.Lists.{at, unassigned, elem}
+use Rattle.links.specs.Lists.{unassigned, elem}
 use Rattle.links.specs.Graph.{row, degree}
 use Rattle.links.proofs.ListLaws.{split, elem-append, elem-this}
 use Rattle.stages.specs.Seeds.{Distance}

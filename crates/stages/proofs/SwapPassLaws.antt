@@ -25,7 +25,7 @@ use Rattle.stages.proofs.SlotLaws.{slots-empty}
 use Rattle.stages.proofs.SwapListLaws.{proposals-are, proposals-none, proposals-none-back, candidates-within, proposals-named}
 use Rattle.stages.proofs.SwapsSliceLaws.{rows_few, rows_short, roomed}
 use Rattle.stages.proofs.KeyLaws.{filled_none}
-use Rattle.stages.proofs.SwapStepLaws.{taken_none, Taken-then}
+use Rattle.stages.proofs.SwapStepLaws.{taken_none, taken-then}
 use Rattle.stages.proofs.ListingLaws.{pair-below, list-kept, given-kept, owners-same, sorted-empty}
 
 -- ---- two ranks
@@ -119,7 +119,7 @@ module _ {w : List ℕ} {s : SwapRoom} (g : Given w s) where
         ∙ ap (concat_map f) (range_snoc (suc a) (b - suc a) b (omega arith))
         ∙ concat-append f (range (suc a) (b - suc a)) (b ∷ [])
         ∙ rw (append-nil (f b), e) in
-        rw split_off (Taken-then g t (rw same_rows at u))
+        rw split_off (taken-then g t (rw same_rows at u))
 
     -- one rank more
     pub rank-turn
@@ -134,7 +134,7 @@ module _ {w : List ℕ} {s : SwapRoom} (g : Given w s) where
         ∙ ap (concat_map f) (range_snoc 0 a a (omega arith))
         ∙ concat-append f (range 0 a) (a ∷ [])
         ∙ rw (append-nil (f a), e) in
-        rw split_off (Taken-then g t (rw same_rows at u))
+        rw split_off (taken-then g t (rw same_rows at u))
 
 -- before the first pair, and before the first rank
 pub pairs-none : (n : ℕ) (rows : List (List ℕ)) (owners : List ℕ) (a : ℕ) → rank_proposals n rows owners a (a + 1) ≡ []

@@ -360,13 +360,13 @@ module _ {w : List ℕ} {s : SwapRoom} (p : Proposal) where
   }
 
 -- some proposals, and then others
-pub Taken-then
+pub taken-then
     : {w w₁ w₂ : List ℕ} {s : SwapRoom} {i j : ℕ} {ps qs : List Proposal}
     → Given w s
     → Taken w w₁ s i ps
     → Taken w₁ w₂ s j qs
     → Taken w w₂ s (i + j) (ps ++ qs)
-Taken-then {w} {w₁} {w₂} {s} {i} {j} {ps} {qs} g x y =
+taken-then {w} {w₁} {w₂} {s} {i} {j} {ps} {qs} g x y =
     let l = s.level in
     let b = balance_in s.limits in
     let below : l.owners ≤ l.owners = omega arith in

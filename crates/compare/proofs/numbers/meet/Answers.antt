@@ -1,7 +1,6 @@
 use native.Mathlib.Omega.{arith}
 use borrow.Author.Tests.{eq-eqb, ne_eqb}
 use Rattle.links.specs.Lists.{at, unassigned}
-use mathlib.Core.Path.{refl}
 use Rattle.compare.proofs.numbers.meet.Goals as goal
 
 pub returns-then-numbers-rank : goal.returns-then-numbers-rank

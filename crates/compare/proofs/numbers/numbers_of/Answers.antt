@@ -1,4 +1,4 @@
-use Prim.Native.Nat.{◌-◌, ◌<◌}
+use Prim.Native.Nat.{◌<◌}
 use native.Mathlib.Omega.{arith}
 use Rattle.links.proofs.RowLaws.{all-place}
 use Rattle.compare.proofs.NumberLaws.{numbering-none, numbering-few, numbering-more, numbering-done}

@@ -1,4 +1,3 @@
-use Prim.Native.Nat.{◌-◌}
 use Rattle.compare.proofs.NumberLaws.{Naming}
 use Rattle.compare.proofs.renaming.renaming_of.Given as goal
 

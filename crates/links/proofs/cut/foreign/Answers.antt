@@ -1,4 +1,3 @@
-use Prim.Native.Nat.{◌-◌}
 use mathlib.Core.Path.{◌≡◌, ap, ◌∙◌}
 use mathlib.Core.Bool.{true, false}
 use native.Mathlib.Omega.{arith}
@@ -23,12 +22,12 @@ loop-i-preserved c =
     let e = foreign-drop row owners a.home i c.loop-i-test.true in
     let u = c.number_at.ensures ∙ ap (at owners) c.index.ensures in
     elim c.if-number_at-home.branch [
-      then-number_at-home w ↦
-        let t : eqb (at owners (at row i)) a.home ≡ false = ne_eqb (at owners (at row i)) a.home (λ q. omega (arith, w.if-number_at-home.true, u)) in
-        omega (arith, rw t at e)
-    | else-number_at-home w ↦
-        let t : eqb (at owners (at row i)) a.home ≡ true = eq-eqb (at owners (at row i)) a.home (omega (arith, u, w.if-number_at-home.false)) in
-        omega (arith, rw t at e)
+      | then-number_at-home w ↦
+          let t : eqb (at owners (at row i)) a.home ≡ false = ne_eqb (at owners (at row i)) a.home (λ q. omega (arith, w.if-number_at-home.true, u)) in
+          omega (arith, rw t at e)
+      | else-number_at-home w ↦
+          let t : eqb (at owners (at row i)) a.home ≡ true = eq-eqb (at owners (at row i)) a.home (omega (arith, u, w.if-number_at-home.false)) in
+          omega (arith, rw t at e)
     ]
 
 pub returns : goal.returns

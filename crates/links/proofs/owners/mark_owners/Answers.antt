@@ -1,7 +1,5 @@
-use Prim.Native.Nat.{◌-◌}
 use native.Mathlib.Omega.{arith}
 use lib.Seq.{take_all}
-use Rattle.links.specs.Lists.{at}
 use Rattle.links.proofs.OwnerLaws.{marked-none, marked_more}
 use Rattle.links.proofs.owners.mark_owners.Goals as goal
 

@@ -1,4 +1,3 @@
-use Prim.Native.Nat.{◌-◌}
 use mathlib.Core.Path.{sym, ◌≡◌}
 use mathlib.Core.Bool.{true, false}
 use native.Mathlib.Omega.{arith}
@@ -21,12 +20,12 @@ loop-i-preserved c =
     let i = c.loop-i.i in
     let e = owned-drop owners i c.loop-i-test.true rank in
     elim c.if-owners-i.branch [
-      then-owners-i w ↦
-        let t : eqb rank (at owners i) ≡ true = eq-eqb rank (at owners i) (sym w.if-owners-i.true) in
-        omega (arith, rw t at e)
-    | else-owners-i w ↦
-        let t : eqb rank (at owners i) ≡ false = ne_eqb rank (at owners i) (λ p. w.if-owners-i.false (sym p)) in
-        omega (arith, rw t at e)
+      | then-owners-i w ↦
+          let t : eqb rank (at owners i) ≡ true = eq-eqb rank (at owners i) (sym w.if-owners-i.true) in
+          omega (arith, rw t at e)
+      | else-owners-i w ↦
+          let t : eqb rank (at owners i) ≡ false = ne_eqb rank (at owners i) (λ p. w.if-owners-i.false (sym p)) in
+          omega (arith, rw t at e)
     ]
 
 pub returns : goal.returns

@@ -1,6 +1,6 @@
 -- The tests in their order, each of which may rest on those before it. Assumes nothing.
 use Prim.Native.Nat.{ℕ}
-use mathlib.Core.Bool.{Bool, true, false}
+use mathlib.Core.Bool.{true, false}
 use mathlib.Core.Path.{◌≡◌, refl, sym, ap, ◌∙◌}
 use lib.ListN.{length}
 use Rattle.links.specs.Graph.{vertex_count, bad_lists}
@@ -8,7 +8,7 @@ use Rattle.links.specs.Workloads.{bad_workloads, workloads_cause}
 use Rattle.links.specs.Options.{bad_options, bad_swaps}
 use Rattle.links.proofs.ListTestLaws.{lists-bad, lists-fine}
 use Rattle.links.proofs.WorkloadLaws.{workloads-bad, workloads-fine}
-use Rattle.multilevel.specs.Causes.{Call, call_of, bad_counts, over_limits, first_of, too_short, early_cause}
+use Rattle.multilevel.specs.Causes.{call_of, bad_counts, over_limits, too_short}
 use Rattle.multilevel.proofs.CauseLaws.{limited, options-fine, counts-as, limits-as, room_as, early-options, early-is}
 use Rattle.multilevel.proofs.causes.early_cause.Goals.{Else-bad_counts, Else-cause-ne0, Else-lists_cause-ne0, Else-over_limits, Else-workloads_cause-ne0}
 use Rattle.multilevel.proofs.causes.early_cause.Goals as goal

@@ -4,7 +4,7 @@ use mathlib.Core.Path.{◌≡◌, ◌∙◌, ap, sym, refl}
 use native.Mathlib.Omega.{arith}
 use lib.ListN.{length}
 use Rattle.links.specs.Graph.{vertex_count}
-use Rattle.multilevel.specs.Causes.{Call, call_of, work_need, need_of, early_cause}
+use Rattle.multilevel.specs.Causes.{call_of, work_need, need_of, early_cause}
 use Rattle.multilevel.proofs.FinishLaws.{early-refused}
 use Rattle.multilevel.proofs.EndLaws.{whole-limits, whole-fits, whole-divisible, whole-zeroed, whole-partitioned}
 use Rattle.multilevel.proofs.driver.abtm_multilevel_partition.Goals.{After-work_need-need, Else-cause-ne0}

@@ -4,7 +4,7 @@ use mathlib.Core.Path.{◌≡◌, ◌∙◌, ap}
 use native.Mathlib.Omega.{arith}
 use lib.ListN.{length}
 use Rattle.links.specs.Graph.{vertex_count}
-use Rattle.multilevel.specs.Causes.{Call, call_of}
+use Rattle.multilevel.specs.Causes.{call_of}
 use Rattle.multilevel.specs.Room.{level_at}
 use Rattle.multilevel.specs.DriverCode.{rules_with, rules_for, site_level}
 use Rattle.multilevel.proofs.EndLaws.{site-short, site-limits, code_fits, code-site, code-refusal, rooms-small, code-finishing, code-room, code-divided}

@@ -1,11 +1,10 @@
 -- The tests in their order, each of which may rest on those before it. Assumes nothing.
 use Prim.Native.Nat.{ℕ}
 use mathlib.Core.Path.{◌≡◌, sym, ◌∙◌}
-use mathlib.Core.Bool.{Bool, true, false, cond}
-use mathlib.Core.List.{List}
+use mathlib.Core.Bool.{true, false}
 use Rattle.links.specs.Lists.{any}
 use Rattle.links.specs.Workloads.{bad_workload}
-use Rattle.multilevel.specs.File.{link_count_of, over_program_limits, good_length, good_links, file_workloads, has_lone, file_cause, Sized}
+use Rattle.multilevel.specs.File.{link_count_of, over_program_limits, good_length, good_links, file_workloads, Sized}
 use Rattle.multilevel.proofs.FileLaws.{file-short, file-over, file-length, file-links, file-workloads, file-lone, file-sized}
 use Rattle.multilevel.proofs.file.link_file_cause.Goals.{Else-not-length_good, Else-not-links_good, Else-over_limits, Else-workload_bad}
 use Rattle.multilevel.proofs.file.link_file_cause.Goals as goal

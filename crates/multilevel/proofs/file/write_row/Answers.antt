@@ -1,4 +1,3 @@
-use Prim.Native.Nat.{◌-◌}
 use lib.ListN.{length}
 use native.Mathlib.Omega.{arith}
 use Rattle.multilevel.proofs.FileWriteLaws.{end_fits, row_next, row-end, row-start, written-length}

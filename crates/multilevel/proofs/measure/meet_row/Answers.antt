@@ -1,5 +1,3 @@
-use Rattle.links.specs.Lists.{at}
-use Prim.Native.Nat.{◌-◌}
 use native.Mathlib.Omega.{arith}
 use Rattle.multilevel.proofs.MeasureLaws.{meeting-few, met-once, meeting-none, owner-in, rank-in, meeting-more, meeting-done}
 use Rattle.multilevel.proofs.measure.meet_row.Goals as goal

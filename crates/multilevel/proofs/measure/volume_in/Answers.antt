@@ -1,4 +1,3 @@
-use Prim.Native.Nat.{◌-◌}
 use native.Mathlib.Omega.{arith}
 use Rattle.multilevel.proofs.MeasureLaws.{measurable-kept, summing-none, summing-more, summing-done}
 use Rattle.multilevel.proofs.measure.volume_in.Goals as goal

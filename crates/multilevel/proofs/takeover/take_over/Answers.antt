@@ -1,4 +1,3 @@
-use Prim.Native.Nat.{◌-◌}
 use native.Mathlib.Omega.{arith}
 use Rattle.multilevel.proofs.RoomLaws.{taking-none, taking-more, taking-all, group-in, group-read}
 use Rattle.multilevel.proofs.takeover.take_over.Goals as goal

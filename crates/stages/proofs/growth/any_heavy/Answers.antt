@@ -1,5 +1,4 @@
 use native.Mathlib.Omega.{arith}
-use Prim.Native.Nat.{◌-◌}
 use mathlib.Core.Path.{sym, refl, ap, ◌∙◌}
 use lib.Dec.{ltb}
 use lib.ListN.{drop_of_length-le}

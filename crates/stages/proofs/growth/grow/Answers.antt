@@ -1,5 +1,4 @@
 use native.Mathlib.Omega.{arith}
-use Prim.Native.Nat.{◌-◌}
 use mathlib.Core.Path.{refl}
 use Rattle.stages.specs.FrontierCode.{memory_in}
 use Rattle.stages.specs.declared.growth.Grown.TheVariants as variant

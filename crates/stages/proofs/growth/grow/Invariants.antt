@@ -3,7 +3,6 @@ use Prim.Native.Nat.{◌-◌}
 use mathlib.Core.Path.{◌≡◌}
 use Rattle.stages.specs.FrontierCode.{memory_in, vacant_in}
 use Rattle.stages.specs.GrowthCode.{Behind}
-use Rattle.stages.specs.declared.growth.Grown.TheVariants as variant
 use Rattle.stages.proofs.GrowthRoundLaws.{GrownBy}
 use Rattle.stages.proofs.growth.grow.Given as goal
 

@@ -1,5 +1,5 @@
 -- The loop keeps the seeds of the ranks from r on seated. Assumes nothing.
-use Prim.Native.Nat.{◌-◌, ◌≤◌}
+use Prim.Native.Nat.{◌≤◌}
 use mathlib.Core.Path.{◌≡◌}
 use lib.ListN.{length}
 use Rattle.stages.specs.GrowthCode.{Blank, Seated}

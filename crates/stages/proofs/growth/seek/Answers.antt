@@ -2,7 +2,7 @@ use Prim.Native.Nat.{◌<◌}
 use mathlib.Core.Path.{sym, ◌∙◌}
 use Rattle.links.specs.Graph.{rows_of, vertex_count}
 use Rattle.stages.specs.FrontierCode.{opens}
-use Rattle.stages.proofs.ChainLaws.{going_start, Going-on, head_in, left-some}
+use Rattle.stages.proofs.ChainLaws.{going_start, going-on, head_in, left-some}
 use Rattle.stages.proofs.growth.seek.Goals as goal
 
 pub loop-c-init : goal.loop-c-init
@@ -30,7 +30,7 @@ loop-c-smaller c =
     let a = c.args in
     let l = c.loop-c in
     let r = c.onward-c.result in
-    (Going-on (rows_of a.offsets.now a.neighbors.now) a.links.now (opens a.cap a.weights.now a.owners.now a.load)
+    (going-on (rows_of a.offsets.now a.neighbors.now) a.links.now (opens a.cap a.weights.now a.owners.now a.load)
     (vertex_count a.offsets.now) a.from.head a.from.place a.from.count
     l.head l.place l.count r.head r.place r.count l.invariant
     (sym c.stops.ensures ∙ c.loop-c-test.true) c.onward-c.ensures).1
@@ -40,7 +40,7 @@ loop-c-preserved c =
     let a = c.args in
     let l = c.loop-c in
     let r = c.onward-c.result in
-    (Going-on (rows_of a.offsets.now a.neighbors.now) a.links.now (opens a.cap a.weights.now a.owners.now a.load)
+    (going-on (rows_of a.offsets.now a.neighbors.now) a.links.now (opens a.cap a.weights.now a.owners.now a.load)
     (vertex_count a.offsets.now) a.from.head a.from.place a.from.count
     l.head l.place l.count r.head r.place r.count l.invariant
     (sym c.stops.ensures ∙ c.loop-c-test.true) c.onward-c.ensures).0

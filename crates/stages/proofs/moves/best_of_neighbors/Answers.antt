@@ -1,7 +1,7 @@
 use Rattle.stages.proofs.TallySliceLaws.{owner-asks, owner-in, rises}
 use Rattle.stages.proofs.MovesTurnLaws.{tallies-roomed}
 use Rattle.links.proofs.PartLaws.{kept_refl}
-use Prim.Native.Nat.{◌+◌, ◌-◌, ◌<◌}
+use Prim.Native.Nat.{◌+◌, ◌<◌}
 use mathlib.Core.Path.{◌≡◌, refl, sym}
 use native.Mathlib.Omega.{arith}
 use lib.ListN.{length}

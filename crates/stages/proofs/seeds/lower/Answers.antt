@@ -1,5 +1,5 @@
 use native.Mathlib.Omega.{arith}
-use Prim.Native.Nat.{ℕ, ◌+◌, ◌-◌}
+use Prim.Native.Nat.{ℕ, ◌+◌}
 use mathlib.Core.Path.{◌≡◌, refl, ap, ◌∙◌}
 use lib.ListN.{length, set, length-set}
 use Rattle.stages.proofs.LoweringLaws.{at_new, at-queue, low-begins, tail-le, low-scans, low-next, low-ends}

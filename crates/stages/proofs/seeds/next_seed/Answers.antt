@@ -2,7 +2,7 @@ use native.Mathlib.Omega.{arith}
 use native.Mathlib.Nat.{sub-zero}
 use mathlib.Core.Path.{refl, sym, ◌∙◌}
 use mathlib.Core.Logic.{inl}
-use Prim.Native.Nat.{ℕ, ◌-◌}
+use Prim.Native.Nat.{ℕ}
 use Rattle.links.specs.Best.{held}
 use Rattle.links.proofs.BestLaws.{one_more, all-met, held-step, step_in}
 use Rattle.stages.specs.SeedsCode.{from, ahead, unseeded, degree_at}

@@ -1,4 +1,4 @@
-use Prim.Native.Nat.{ℕ, ◌-◌}
+use Prim.Native.Nat.{ℕ}
 use mathlib.Core.List.{List}
 use mathlib.Core.Path.{◌≡◌, sym, ap, ◌∙◌}
 use native.Mathlib.Omega.{arith}
@@ -37,10 +37,10 @@ loop-i-preserved c =
     let k = links-cons a.row.now a.owners.now l.i (length a.row.now) a.r (omega arith) (omega arith) in
     let o : at a.owners.now (at a.row.now l.i) ≡ at a.owners.now c.index-u.result = ap (at a.owners.now) (sym c.index-u.ensures) in
     elim c.if-owners-u.branch [
-      then-owners-u w ↦
-        (omega arith, omega arith, omega (arith, k, ap tally (eq-eqb _ _ (o ∙ w.if-owners-u.true))))
-    | else-owners-u w ↦
-        (omega arith, omega arith, omega (arith, k, ap tally (ne_eqb _ _ (λ q. w.if-owners-u.false (sym o ∙ q)))))
+      | then-owners-u w ↦
+          (omega arith, omega arith, omega (arith, k, ap tally (eq-eqb _ _ (o ∙ w.if-owners-u.true))))
+      | else-owners-u w ↦
+          (omega arith, omega arith, omega (arith, k, ap tally (ne_eqb _ _ (λ q. w.if-owners-u.false (sym o ∙ q)))))
     ]
 
 pub returns : goal.returns

@@ -1,4 +1,3 @@
-use Prim.Native.Nat.{◌-◌}
 use native.Mathlib.Omega.{arith}
 use Rattle.stages.specs.Slots.{proposal, slots}
 use Rattle.stages.proofs.KeyLaws.{walk_start, walk_end, walk-stop, walk_here, walk_turn}
@@ -18,12 +17,11 @@ propose_row-requires c =
     (c.requires.0, c.loop-i.invariant.1, walk_here c.loop-i.invariant.2 (omega arith) c.if-x-eq0.false, c.requires.3)
 
 pub loop-i-preserved : goal.loop-i-preserved
-loop-i-preserved c =
-    (
-      omega arith,
-      omega (arith, c.propose_row.auto),
-      walk_turn c.loop-i.invariant.2 (omega arith) c.if-x-eq0.false (slots proposal c.args.room c.propose_row.new.list) c.propose_row.ensures,
-    )
+loop-i-preserved c = (
+  omega arith,
+  omega (arith, c.propose_row.auto),
+  walk_turn c.loop-i.invariant.2 (omega arith) c.if-x-eq0.false (slots proposal c.args.room c.propose_row.new.list) c.propose_row.ensures,
+)
 
 pub shape_of-list : goal.shape_of-list
 shape_of-list c = omega arith

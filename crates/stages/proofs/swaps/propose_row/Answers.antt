@@ -1,4 +1,3 @@
-use Prim.Native.Nat.{◌-◌}
 use native.Mathlib.Omega.{arith}
 use Rattle.stages.specs.Slots.{proposal, slots}
 use Rattle.stages.proofs.KeyLaws.{walk_start, walk_end, walk-stop, walk_here, walk_turn}
@@ -18,12 +17,11 @@ propose-requires c =
     (c.requires.0, c.loop-j.invariant.1, c.requires.2, walk_here c.loop-j.invariant.2 (omega arith) c.if-y-eq0.false)
 
 pub loop-j-preserved : goal.loop-j-preserved
-loop-j-preserved c =
-    (
-      omega arith,
-      omega (arith, c.propose.auto),
-      walk_turn c.loop-j.invariant.2 (omega arith) c.if-y-eq0.false (slots proposal c.args.room c.propose.new.list) c.propose.ensures,
-    )
+loop-j-preserved c = (
+  omega arith,
+  omega (arith, c.propose.auto),
+  walk_turn c.loop-j.invariant.2 (omega arith) c.if-y-eq0.false (slots proposal c.args.room c.propose.new.list) c.propose.ensures,
+)
 
 pub shape_of-list : goal.shape_of-list
 shape_of-list c = omega arith

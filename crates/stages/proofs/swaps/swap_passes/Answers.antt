@@ -1,4 +1,3 @@
-use Prim.Native.Nat.{◌-◌}
 use mathlib.Core.Path.{◌∙◌}
 use native.Mathlib.Omega.{arith}
 use Rattle.stages.proofs.SwapPassLaws.{repeat-starts, repeat-goes, repeat-stops, repeat-done, total-few}
@@ -32,11 +31,10 @@ pub loop-p-smaller : goal.loop-p-smaller
 loop-p-smaller c = omega (arith, c.loop-p-test.true)
 
 pub loop-p-preserved : goal.loop-p-preserved
-loop-p-preserved c =
-    (
-      omega (arith, c.loop-p-test.true),
-      rw c.wide-total.ensures (repeat-goes c.requires.0 c.args.passes c.loop-p.invariant.1 c.loop-p-test.true c.swap_pass-swaps.ensures c.if-swaps-eq0.false),
-    )
+loop-p-preserved c = (
+  omega (arith, c.loop-p-test.true),
+  rw c.wide-total.ensures (repeat-goes c.requires.0 c.args.passes c.loop-p.invariant.1 c.loop-p-test.true c.swap_pass-swaps.ensures c.if-swaps-eq0.false),
+)
 
 pub shape_of-work : goal.shape_of-work
 shape_of-work c = c.loop-p.invariant.1.kept.same_length

@@ -1,4 +1,4 @@
-use Prim.Native.Nat.{ℕ, ◌+◌, ◌-◌}
+use Prim.Native.Nat.{ℕ, ◌+◌}
 use mathlib.Core.Path.{◌≡◌, refl}
 use mathlib.Core.List.{List}
 use native.Mathlib.Omega.{arith}
@@ -9,8 +9,7 @@ use Rattle.stages.proofs.SwapPassLaws.{holding-on, Pair-turn, pairs-none}
 use Rattle.stages.proofs.swaps.swap_rank.Goals as goal
 
 pub loop-b-init : goal.loop-b-init
-loop-b-init c =
-    (
+loop-b-init c = (
   omega arith,
   omega arith,
   omega arith,

@@ -1,4 +1,4 @@
-use Prim.Native.Nat.{◌+◌, ◌-◌, ◌*◌}
+use Prim.Native.Nat.{◌+◌, ◌*◌}
 use mathlib.Core.Path.{◌≡◌, refl, ◌∙◌, subst}
 use mathlib.Core.List.{[], ◌∷◌}
 use native.Mathlib.Omega.{arith}
@@ -8,7 +8,7 @@ use Rattle.stages.specs.Slots.{proposal, slots}
 use Rattle.stages.specs.SwapsCode.{Taken}
 use Rattle.stages.proofs.SlotLaws.{walk_start, walk_end, walk-stop, walk_here, walk_turn}
 use Rattle.stages.proofs.SwapListLaws.{snoc, snoc-all}
-use Rattle.stages.proofs.SwapStepLaws.{taken_none, Taken-then}
+use Rattle.stages.proofs.SwapStepLaws.{taken_none, taken-then}
 use Rattle.stages.proofs.swaps.take_all.Goals as goal
 
 pub loop-j-init : goal.loop-j-init
@@ -91,7 +91,7 @@ loop-j-preserved c =
       omega arith,
       omega (arith, t.ensures.0),
       one.kept.same_length ∙ l.invariant.2,
-      (snoc l.invariant.3.0 p, walk_turn l.invariant.3.1 (omega arith) d (snoc l.invariant.3.0 p) refl, Taken-then c.requires.0.given l.invariant.3.2 one),
+      (snoc l.invariant.3.0 p, walk_turn l.invariant.3.1 (omega arith) d (snoc l.invariant.3.0 p) refl, taken-then c.requires.0.given l.invariant.3.2 one),
     )
 
 pub shape_of-work : goal.shape_of-work

@@ -1,4 +1,4 @@
-use Rattle.std.proofs.Common.{◌-◌, ◌<◌, arith}
+use Rattle.std.proofs.Common.{◌<◌, arith}
 use Rattle.links.proofs.RowLaws.{all-place}
 use Rattle.telemetry.proofs.SiteLaws.{tallied-none, tallied-fits, tallied-more, tallied-done}
 use Rattle.telemetry.proofs.site.entry_counts.Goals as goal

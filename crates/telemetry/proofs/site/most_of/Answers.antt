@@ -1,4 +1,4 @@
-use Rattle.std.proofs.Common.{◌-◌, sym, ◌∙◌, arith}
+use Rattle.std.proofs.Common.{sym, ◌∙◌, arith}
 use Rattle.links.specs.Lists.{at}
 use Rattle.telemetry.proofs.SiteLaws.{greatest-start, greatest-more, greatest-done}
 use Rattle.telemetry.proofs.site.most_of.Goals as goal

@@ -1,4 +1,4 @@
-use Rattle.std.proofs.Common.{◌≡◌, ◌+◌, ◌-◌, ◌*◌, ◌≤◌, refl, arith}
+use Rattle.std.proofs.Common.{◌≡◌, ◌+◌, ◌*◌, ◌≤◌, refl, arith}
 use Rattle.telemetry.specs.Sites.{offsets_to, neighbors_to, owners_to}
 use Rattle.telemetry.specs.SitesCode.{place_of}
 use Rattle.telemetry.proofs.SitesLaws.{offsets-more, neighbors-more, owners-more}

@@ -1,4 +1,4 @@
-use Rattle.std.proofs.Common.{◌-◌, sym, ◌∙◌, arith}
+use Rattle.std.proofs.Common.{sym, ◌∙◌, arith}
 use Rattle.telemetry.specs.Sites.{sites_from, site_count, cause_at}
 use Rattle.telemetry.proofs.SitesLaws.{sizes-passed, first-start, first-hit, first-miss, first_done, cause-sizes, cause-first}
 use Rattle.telemetry.proofs.sites.sites_cause.Goals as goal

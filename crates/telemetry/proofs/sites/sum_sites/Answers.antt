@@ -1,4 +1,4 @@
-use Rattle.std.proofs.Common.{◌≡◌, ◌-◌, refl, ◌∙◌, arith}
+use Rattle.std.proofs.Common.{◌≡◌, refl, ◌∙◌, arith}
 use Rattle.telemetry.specs.Sites.{sites_from, site_count}
 use Rattle.telemetry.specs.SitesCode.{sum_to}
 use Rattle.telemetry.proofs.SitesLaws.{summed, small_at, sum-next, totals-are}

@@ -1,4 +1,3 @@
-use Prim.Native.Nat.{◌-◌}
 use Rattle.visits.proofs.CraneLaws.{onward-start, onward-ready, onward-step, onward-less, onward-end}
 use Rattle.visits.proofs.crane.sweep_all.Goals as goal
 

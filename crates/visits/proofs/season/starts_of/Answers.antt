@@ -1,8 +1,6 @@
-use Prim.Native.Nat.{◌-◌}
 use mathlib.Core.Path.{◌≡◌}
 use native.Mathlib.Omega.{arith}
 use lib.ListN.{length}
-use Rattle.links.specs.Lists.{at}
 use Rattle.visits.proofs.SeasonLaws.{started_none, start-low, started-more}
 use Rattle.visits.proofs.season.starts_of.Goals as goal
 
