@@ -2,7 +2,7 @@
 use Prim.Native.Nat.{ℕ, ◌+◌, ◌-◌, ◌*◌, ◌≤◌, ◌<◌}
 use mathlib.Core.Path.{◌≡◌, refl, sym, ap, ◌∙◌}
 use mathlib.Core.Bool.{Bool, true, false, not, ◌&&◌, ◌||◌, cond}
-use mathlib.Core.List.{List, [], map}
+use mathlib.Core.List.{List, [], ◌∷◌, map}
 use native.Mathlib.Omega.{arith}
 use lib.ListN.{length, set, take, length-map}
 use lib.Seq.{take_all, get_or-set_same, get_or-set_other}
@@ -11,15 +11,15 @@ use borrow.Author.Tests.{eq-eqb, ne_eqb, eqb-true, eqb-false, not-true, not-fals
 use Rattle.links.specs.Lists.{at, any, range, elem}
 use Rattle.links.specs.Parts.{part, Kept}
 use Rattle.links.specs.Graph.{row, vertices, cut_entries, foreign_neighbors, volume, Sound, OwnedLists}
-use Rattle.links.proofs.ListLaws.{split, get_or-mapped, map-in, all-to, eqb-sym, and_l, and_r, and_i, or-true, or-false, iff-eq, tally, count, count-length, all_in, all-range, length-range, any_of, to-any, elem-range, elem-map, elem-take, none-filter, total, total_ext, total-add, total-point, total_left, total-done, sum-total, and-false, and-true, count-range, total-swap}
+use Rattle.links.proofs.ListLaws.{split, eqb-sym, and_l, and_r, and_i, or-true, or-false, iff-eq, tally, count, count-length, all_in, all-range, length-range, any_of, to-any, elem-range, elem-map, elem-take, none-filter, total, total_ext, total-add, total-point, total_left, total-done, sum-total, and-false, and-true, count-range, total-swap}
 use Rattle.links.proofs.RangeLaws.{filter-ext}
 use Rattle.links.proofs.PartLaws.{length_part, get_d_part, kept_refl, kept_trans, kept_set}
 use Rattle.links.proofs.RowLaws.{all-place}
 use Rattle.stages.specs.Level.{offsets_at, neighbors_at, rows_at, owners_at, Ready}
 use Rattle.stages.specs.declared.level.HierarchyLevel.{HierarchyLevel}
-use Rattle.multilevel.proofs.RoomLaws.{same-level, owner-lies, offset-in, offset-rises, row_lies}
+use Rattle.multilevel.proofs.RoomLaws.{same-level, owner-lies, offset-in, offset-rises, row_lies, at_map}
 use Rattle.multilevel.specs.declared.measure.Measures.{Measures}
-use Rattle.multilevel.specs.Measure.{other_ranks, ranks_met, Marked, unmarked, Met, Legible, row_owners, RowMet, Measurable, VertexMet, VolumeMet, Measured}
+use Rattle.multilevel.specs.Measure.{Below, other_ranks, ranks_met, Marked, unmarked, Met, Legible, row_owners, RowMet, Measurable, VertexMet, VolumeMet, Measured}
 use Rattle.stages.proofs.LevelLaws.{length-neighbors, length-owners, count-vertices, all-vertices, ready-kept, neighbors-below}
 
 -- ---- the volume, counted vertex by vertex
@@ -161,7 +161,7 @@ module _ (w₀ : List ℕ) (own seen ranks a e home mark : ℕ) (p : Legible w�
     owner_at : at (row_owners w₀ own a e) (i - a) ≡ at w (own + at w i)
     owner_at =
         let z : a + (i - a) ≡ i = omega arith in
-        get_or-mapped 0 0 (λ u. at w₀ (own + u)) (part w₀ a e) (i - a) (rw (length_part w₀ a e p.from-to (omega (arith, p.under, p.inside))) (omega arith))
+        at_map (λ u. at w₀ (own + u)) (part w₀ a e) (i - a) (rw (length_part w₀ a e p.from-to (omega (arith, p.under, p.inside))) (omega arith))
         ∙ ap (λ (u : ℕ). at w₀ (own + u)) (get_d_part w₀ a e (i - a) (omega arith) ∙ ap (at w₀) z)
         ∙ sym owner-read
 
@@ -268,6 +268,10 @@ module _ (w₀ : List ℕ) (own seen ranks a e home mark : ℕ) (p : Legible w�
 
 -- ---- a vertex and its row in the work slice
 
+map-under : (f g : ℕ → ℕ) (n : ℕ) (xs : List ℕ) → Below xs n → ((x : ℕ) → x < n → f x ≡ g x) → map f xs ≡ map g xs
+map-under f g n [] a e = refl
+map-under f g n (x ∷ xs) a e = rw (e x a.0, map-under f g n xs a.1 e)
+
 pub level-owned : (w : List ℕ) (l : HierarchyLevel) (end : ℕ) → Ready w l end → OwnedLists (offsets_at w l) (neighbors_at w l) (owners_at w l)
 level-owned w l end r =
     record {
@@ -320,7 +324,7 @@ module _ (w : List ℕ) (l : HierarchyLevel) (seen ranks : ℕ) (g : Measurable 
       let us = row (rows_at w l) v in
       let same : row_owners w l.owners (row_from w l v) (row_from w l (v + 1)) ≡ map (at owners) us =
       ap (map (λ u. at w (l.owners + u))) (row_lies w l seen r v h)
-      ∙ map-in (λ u. at w (l.owners + u)) (at owners) us (all-to (λ u. u < l.vertices) (λ u. at w (l.owners + u) ≡ at owners u) (owner-lies w l seen r) us (neighbors-below r v h)) in
+      ∙ map-under (λ u. at w (l.owners + u)) (at owners) l.vertices us (neighbors-below r v h) (owner-lies w l seen r) in
       record {
         counted = t.counted ∙ rw (same, owner-lies w l seen r v h);
         marks = t.marks;

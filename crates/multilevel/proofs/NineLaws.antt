@@ -24,11 +24,12 @@ use Rattle.stages.specs.declared.swaps.Swapping.{Swapping}
 use Rattle.multilevel.specs.Causes.{Call, early_cause}
 use Rattle.multilevel.specs.Division.{Trace, refused, stopped, coarsenings, take_over, swapping_of, no_swapping, refine, grow, solve, division}
 use Rattle.multilevel.specs.Demand3.{site_rows, balance_of, passes_of, kept_steps, Early}
-use Rattle.links.proofs.ListLaws.{split, get_or-mapped}
+use Rattle.links.proofs.ListLaws.{split}
 use Rattle.links.proofs.RowLaws.{length-rows}
 use Rattle.stages.proofs.StepLaws.{length-steps}
 use Rattle.stages.proofs.GrowthLaws.{length-grown}
 use Rattle.stages.proofs.GroupingLaws.{coarse-sound, coarse-weighed, coarse-sized, coarse-load}
+use Rattle.multilevel.proofs.RoomLaws.{at_map}
 use Rattle.multilevel.proofs.DivisionLaws.{tested, early-number}
 use Rattle.multilevel.proofs.Demand3Laws.{refused-by}
 use Rattle.multilevel.proofs.PairedLaws.{Weighty, coarse-weighty, Heavy, coarse-heavy}
@@ -184,7 +185,7 @@ module _ (b : Balance) (passes : ℕ) (few-ranks : b.ranks < unassigned) (narrow
         let start : Peopled b.ranks ws taken =
         λ r h. omega (arith, coarse-load rows s ws small weighed lower.owners r (below.sized z), below.peopled z r h) in
         let owner : (v : ℕ) → v < length rows → at taken v ≡ at lower.owners (at coarse.group v) =
-        λ v h. get_or-mapped 0 0 (at lower.owners) coarse.group v (omega arith) in
+        λ v h. at_map (at lower.owners) coarse.group v (omega arith) in
         let stays : b.cap ≤ 2 → (v : ℕ) → v < length rows → destination b rows ws taken v ≡ none =
         λ k. taken-stays b k rows s ws weighed some-weight taken length_taken small
         (λ v u h j e. owner v h ∙ ap (at lower.owners) e ∙ sym (owner u j)) in

@@ -1,10 +1,10 @@
 -- Laws of where levels lie: parts in their order, in a unit of room, further up, or of smaller sizes; and of what is written there between the
 -- stages. Assumes nothing.
-use Prim.Native.Nat.{ℕ, ◌+◌, ◌-◌, ◌≤◌, ◌<◌}
-use mathlib.Core.Path.{◌≡◌, sym, ap, ◌∙◌}
-use mathlib.Core.List.{List, map}
+use Prim.Native.Nat.{ℕ, zero, suc, ◌+◌, ◌-◌, ◌≤◌, ◌<◌}
+use mathlib.Core.Path.{◌≡◌, refl, sym, ap, ◌∙◌}
+use mathlib.Core.List.{List, [], ◌∷◌, map}
 use native.Mathlib.Omega.{arith}
-use native.Mathlib.Nat.{not-suc-le-zero}
+use native.Mathlib.Nat.{not-suc-le-zero, le_of_suc-le-suc}
 use borrow.Author.Tests.{eqb-true, eqb-false}
 use lib.Dec.{eqb}
 use lib.ListN.{length, set, length-map}
@@ -14,7 +14,7 @@ use Rattle.links.specs.Parts.{part, Kept}
 use Rattle.links.specs.Graph.{row}
 use Rattle.stages.specs.Level.{offsets_at, neighbors_at, rows_at, weights_at, group_at, owners_at, Laid, Ready}
 use Rattle.stages.specs.declared.level.HierarchyLevel.{HierarchyLevel}
-use Rattle.links.proofs.ListLaws.{split, get_or-mapped}
+use Rattle.links.proofs.ListLaws.{split}
 use Rattle.links.proofs.RowLaws.{all-place, row_is, offsets-fit}
 use Rattle.links.proofs.PartLaws.{length_part, get_d_part, part-part, kept_refl, kept_set, kept-part-before}
 use Rattle.multilevel.specs.Room.{unit_of, level_at, Stacked, TakenOver}
@@ -87,6 +87,11 @@ pub record Taking (w₀ : List ℕ) (n group own from : ℕ) (w : List ℕ) (v :
 pub taking-none : (w₀ : List ℕ) (n group own from : ℕ) → Taking w₀ n group own from w₀ 0
 taking-none w₀ n group own from = record { frame = kept_refl own (own + n) w₀; passed = λ i h. absurd (not-suc-le-zero h) }
 
+pub at_map : (f : ℕ → ℕ) (xs : List ℕ) (i : ℕ) → i < length xs → at (map f xs) i ≡ f (at xs i)
+at_map f [] i h = absurd (not-suc-le-zero h)
+at_map f (x ∷ xs) zero h = refl
+at_map f (x ∷ xs) (suc i) h = at_map f xs i (le_of_suc-le-suc h)
+
 module _ (w₀ : List ℕ) (l coarse : HierarchyLevel) (s : Stacked w₀ l coarse) where
   -- a vertex's group is a vertex of the coarser level
   pub group-in : (v : ℕ) → v < l.vertices → at w₀ (l.fine_to_coarse + v) < coarse.vertices
@@ -137,6 +142,6 @@ module _ (w₀ : List ℕ) (l coarse : HierarchyLevel) (s : Stacked w₀ l coars
               ∙ t.passed i (omega arith)
               ∙ sym (get_d_part w₀ coarse.owners (coarse.owners + coarse.vertices) q (omega arith))
               ∙ ap (at (owners_at w₀ coarse)) (sym (get_d_part w₀ a (a + n) i (omega arith)))
-              ∙ sym (get_or-mapped 0 0 (at (owners_at w₀ coarse)) (group_at w₀ l) i (rw groups m)));
+              ∙ sym (at_map (at (owners_at w₀ coarse)) (group_at w₀ l) i (rw groups m)));
           frame = t.frame;
         }

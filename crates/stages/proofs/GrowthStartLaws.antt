@@ -2,7 +2,7 @@
 use mathlib.Core.Path.{◌≡◌, refl, sym, ap, ap₂, ◌∙◌, subst}
 use mathlib.Core.Bool.{false≢true}
 use mathlib.Core.List.{List, [], ◌∷◌, ◌++◌, map}
-use Prim.Native.Nat.{ℕ, suc, ◌+◌, ◌≤◌, ◌<◌, ◌^◌}
+use Prim.Native.Nat.{ℕ, zero, suc, ◌+◌, ◌≤◌, ◌<◌, ◌^◌}
 use native.Mathlib.Omega.{arith}
 use lib.Dec.{eqb, leb}
 use lib.ListN.{length, get_or, set, drop, replicate, get_or-replicate, length-map, length-drop, drop_of_length-le}
@@ -11,7 +11,7 @@ use borrow.Author.Tests.{eqb-true, eqb-false}
 use Rattle.links.specs.Lists.{at, unassigned, filter, foldl, sum}
 use Rattle.links.specs.Parts.{filled_part, Kept}
 use Rattle.links.specs.Graph.{row, load}
-use Rattle.links.proofs.ListLaws.{split, and_l, count-length, get_or-mapped}
+use Rattle.links.proofs.ListLaws.{split, and_l, count-length}
 use Rattle.links.proofs.PartLaws.{get_d_part, kept-part-before, filled-kept, filled_at, filled-part}
 use Rattle.stages.specs.Coarsen.{by_degree}
 use Rattle.stages.specs.Growth.{Growing, Growth, seeded, seed_owners, grown, weighted_multisource, unowned, rounds, after_turn, restart_count}
@@ -246,6 +246,11 @@ module _ {l : GrowthRoom} {w w' : List ℕ} (b : Blank l w) (r : ℕ) (q : r < l
           (λ p. front-d d y (eqb-false d r p) ∙ t.fronts d (let z = eqb-false d r p in omega arith) y);
     }
 
+get_or-mapped : (f : ℕ → List ℕ) (xs : List ℕ) (d : ℕ) → d < length xs → get_or (map f xs) d [] ≡ f (at xs d)
+get_or-mapped f [] d h = absurd (omega arith)
+get_or-mapped f (x ∷ xs) zero h = refl
+get_or-mapped f (x ∷ xs) (suc d) h = get_or-mapped f xs d (omega arith)
+
 -- the memory stands for the definition's start
 seated-stands : {l : GrowthRoom} {w w' : List ℕ} (cap : ℕ) → Blank l w → Seated l w w' 0 → StandsIn cap l w w' (seeded (rows_in l w) (seeds_in l w))
 unfolding seeded opens
@@ -262,7 +267,7 @@ seated-stands {l} {w} {w'} cap b t =
           subst (λ (o : List ℕ). filter (open_to cap W o d) (front_of (rows_in l w) (memory_in l w') d) ≡ filter (open_to cap W o d) (get_or (map new seeds) d []))
           (sym oe)
           (ap (filter (open_to cap W os d)) (t.fronts d (omega arith) q)
-          ∙ sym (ap (filter (open_to cap W os d)) (get_or-mapped 0 [] new seeds d (omega (arith, b.sown.seeds.all)))
+          ∙ sym (ap (filter (open_to cap W os d)) (get_or-mapped new seeds d (omega (arith, b.sown.seeds.all)))
           ∙ filter-sub (open_to cap W os d) (unowned os) (λ x e. and_l (unowned os x) (leb (load W os d + at W x) cap) e) (row (rows_in l w) (at seeds d))));
       all-ranks = length-map seeds new ∙ b.sown.seeds.all;
     }

@@ -6,7 +6,7 @@ use Rattle.links.specs.Lists.{at, filter, range, sum, greatest}
 use Rattle.links.specs.Parts.{table}
 use Rattle.links.specs.Graph.{degree, vertex_count, rows_of, neighbors_of, site_cause, owned, OwnedLists}
 use Rattle.links.specs.Owners.{from_owners}
-use Rattle.links.proofs.ListLaws.{split, map-in, all-range, eqb-sym, total_ext, total-same, sum-append, filter-append, greatest-is, length-range}
+use Rattle.links.proofs.ListLaws.{split, eqb-sym, total_ext, total-same, sum-append, filter-append, greatest-is, length-range}
 use Rattle.links.proofs.ListTestLaws.{site-passed, at-range}
 use Rattle.links.proofs.OwnerLaws.{Assigned, assigned, owned-all}
 use Rattle.links.proofs.PartLaws.{get_or-table, table-zero, table-add}
@@ -79,10 +79,13 @@ module _ (f : ℕ → ℕ) (i n : ℕ) (most : ℕ) where
 pub greatest-start : (f : ℕ → ℕ) (n : ℕ) → max 0 (greatest (map f (range 0 (n - 0)))) ≡ greatest (map f (range 0 n))
 greatest-start f n = let e : n - 0 ≡ n = omega arith in rw e (omega arith)
 
+map_range : (f g : ℕ → ℕ) (i n : ℕ) → ((x : ℕ) → i ≤ x → x < i + n → f x ≡ g x) → map f (range i n) ≡ map g (range i n)
+map_range f g i zero h = refl
+map_range f g i (suc n) h = rw (h i (omega arith) (omega arith), map_range f g (suc i) n (λ x a b. h x (omega arith) (omega arith)))
+
 -- of the first k in a table
 pub greatest-table : (f : ℕ → ℕ) (n k : ℕ) (counts : List ℕ) → k ≤ n → counts ≡ table f n → greatest (map (at counts) (range 0 k)) ≡ greatest (map f (range 0 k))
-greatest-table f n k counts h e =
-    ap greatest (map-in (at counts) f (range 0 k) (all-range (λ x. at counts x ≡ f x) 0 k (λ x a b. ap (λ (l : List ℕ). at l x) e ∙ get_or-table f n x (omega arith))))
+greatest-table f n k counts h e = ap greatest (map_range (at counts) f 0 k (λ x a b. ap (λ (l : List ℕ). at l x) e ∙ get_or-table f n x (omega arith)))
 
 -- ---- the entries of each rank's rows, counted vertex by vertex
 
