@@ -67,6 +67,7 @@ same './run FILE' "$("$share" <samples/torus64.links)" "$(cd samples && ../run t
 same './run of no file' 'run: no file that can be read: no/such.links' "$(./run no/such.links 2>&1 || true)"
 same './run of a folder' 'run: no file that can be read: samples' "$(./run samples 2>&1 || true)"
 mkdir -p target/no-rt
+rm -f target/no-rt/dirname
 cp "$(command -v dirname)" target/no-rt/dirname
 same './run without rt' 'run: rt, the Rattle toolchain, is not on the PATH' "$(PATH=target/no-rt "$BASH" run 2>&1 || true)"
 

@@ -17,8 +17,15 @@ OTHER = {
     'cutLinks': 'links_cut',  # the field cut_links
     'u64Max': 'u64_max',
     'oneAndAHalf': 'one_and_a_half',
+    # what port.py made of getD
+    'get_d_part': 'get_or-part',
+    'all_get_d': 'all-get_or',
+    'same_None': 'same-none',
 }
+# lemmas whose first word port.py took for a type
+TAKEN = ('All-either', 'Going-on', 'Group-of', 'Load-set', 'Pair-turn', 'Taken-then', 'Told-grown')
 WORD = re.compile(r"(?<![A-Za-z0-9_'.«-])[a-z_][A-Za-z0-9_']*(?:-[A-Za-z0-9_']+)*|(?<=\.)[a-z_][A-Za-z0-9_']*(?:-[A-Za-z0-9_']+)*|(?<=«)[a-z_][A-Za-z0-9_']*")
+FIRST = re.compile(r"(?<![A-Za-z0-9_'-])(?:" + '|'.join(TAKEN) + r")(?![A-Za-z0-9_'-])")
 HUMP = re.compile(r"([a-z0-9])([A-Z])(?=[a-z])")
 
 
@@ -37,15 +44,17 @@ def respelled(word):
 
 
 def main():
-    files = [p for top in ('crates', 'docs') for s in ('*.antt', '*.rt', '*.edit', '*.md') for p in pathlib.Path(top).rglob(s)]
+    files = [p for top in ('crates', 'docs') for s in ('*.antt', '*.rt', '*.edit', '*.md') for p in pathlib.Path(top).rglob(s) if 'out' not in p.parts]
     files.append(pathlib.Path('README.md'))
     known = set()
     for p in files:
-        if p.suffix == '.antt':
+        if p.suffix in ('.antt', '.rt'):
             known.update(m.group() for m in WORD.finditer(p.read_text()) if respelled(m.group()) != m.group())
     for p in sorted(files):
         text = p.read_text()
         new = WORD.sub(lambda m: respelled(m.group()) if m.group() in known else m.group(), text)
+        if p.suffix == '.antt':
+            new = FIRST.sub(lambda m: m.group().lower(), new)
         if new != text:
             p.write_text(new)
             print(p)

@@ -8,7 +8,7 @@ use links::{copy_part, index, lists_cause, stray_owner, vertex_count, wide};
 use stages::HierarchyLevel;
 
 // Where things lie: the level, room for the next, the stages' own room, and that of the candidates' lists.
-#[derive(Drop)]
+#[derive(Clone, Copy)]
 pub struct Place {
     pub level: HierarchyLevel,
     pub next: HierarchyLevel,

@@ -11,7 +11,7 @@ use crate::renaming::renaming_of;
 use links::{Assignment, cut_entries, from_owners, site_cause, vertex_count};
 
 // The order, and the renaming if they are the same, else zeros.
-#[derive(Drop)]
+#[derive(Clone, Copy)]
 pub struct Comparison {
     pub order: Order,
     pub renaming: [u32; 256],

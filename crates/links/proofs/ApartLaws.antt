@@ -10,7 +10,7 @@ use lib.ListN.{length}
 use borrow.Author.Tests.{leb-true, eqb-true, eqb-false}
 use Rattle.links.specs.Lists.{at, All, all}
 use Rattle.links.specs.Graph.{strictly_rising, never_falling}
-use Rattle.links.proofs.ListLaws.{split, all_of, all_get_d}
+use Rattle.links.proofs.ListLaws.{split, all_of, all-get_or}
 
 abbrev pub apart : (ℕ → ℕ) → List ℕ → Bool
 apart f [] = true
@@ -36,7 +36,7 @@ module _ (f : ℕ → ℕ) where
   apart_by : (xs : List ℕ) → apart f xs ≡ true → (i j : ℕ) → i < j → j < length xs → f (at xs i) ≤ at xs j
   apart_by [] e i j h k = absurd (omega arith)
   apart_by (x ∷ xs) e i zero h k = absurd (omega arith)
-  apart_by (x ∷ xs) e zero (suc j) h k = all_get_d xs j 0 (omega arith) (λ y. f x ≤ y) (apart-first x xs e).0
+  apart_by (x ∷ xs) e zero (suc j) h k = all-get_or xs j 0 (omega arith) (λ y. f x ≤ y) (apart-first x xs e).0
   apart_by (x ∷ xs) e (suc i) (suc j) h k = apart_by xs (apart-first x xs e).1 i j (omega arith) (omega arith)
 
 pub never-falls-first : (x : ℕ) (xs : List ℕ) → never_falling (x ∷ xs) ≡ true → All (λ y. x ≤ y) xs × (never_falling xs ≡ true)

@@ -560,8 +560,8 @@ module _ {A : Type 0} (xs : List A) (i : ℕ) (d : A) (h : i < length xs) where
   pub count-drop : (p : A → Bool) → count p (drop i xs) ≡ tally (p (get_or xs i d)) + count p (drop (i + 1) xs)
   count-drop p = rw (add-one, drop-cons xs i d) (count-cons p (get_or xs i d) (drop (suc i) xs))
 
-  pub all_get_d : (P : A → Type 0) → All P xs → P (get_or xs i d)
-  all_get_d P a = all-at P xs (take i xs) (drop (suc i) xs) (get_or xs i d) a (split_at xs i d h)
+  pub all-get_or : (P : A → Type 0) → All P xs → P (get_or xs i d)
+  all-get_or P a = all-at P xs (take i xs) (drop (suc i) xs) (get_or xs i d) a (split_at xs i d h)
 
 pub sum-append : (xs ys : List ℕ) → sum (xs ++ ys) ≡ sum xs + sum ys
 sum-append [] ys = omega arith
@@ -601,4 +601,4 @@ pub greatest-is
     → p < length xs
     → f (at xs p) ≡ m
     → greatest (map f xs) ≡ m
-greatest-is f xs m p h k e = omega (arith, greatest-least f xs m h, all_get_d xs p 0 k (λ x. f x ≤ greatest (map f xs)) (greatest-bounds f xs), e)
+greatest-is f xs m p h k e = omega (arith, greatest-least f xs m h, all-get_or xs p 0 k (λ x. f x ≤ greatest (map f xs)) (greatest-bounds f xs), e)

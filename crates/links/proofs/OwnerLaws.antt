@@ -15,7 +15,7 @@ use Rattle.links.specs.Graph.{owned}
 use Rattle.links.specs.declared.owners.Assignment.{Assignment}
 use Rattle.links.specs.declared.owners.Assignment.TheVariants.{Valid, Refused}
 use Rattle.links.specs.Owners.{bad_ranks, too_many, counts_cause, stray_owner, empty_rank, from_owners, assignment_number, AssignmentTold, Marked}
-use Rattle.links.proofs.ListLaws.{split, or_l, or_r, or-true, or-false, tally, count, count-cons, count-length, count-append, count-all, count-apart, all-to, to-all, any-ext, any_none, total, counted-below, counted, count-drop, none-counts, all_get_d, elem-take}
+use Rattle.links.proofs.ListLaws.{split, or_l, or_r, or-true, or-false, tally, count, count-cons, count-length, count-append, count-all, count-apart, all-to, to-all, any-ext, any_none, total, counted-below, counted, count-drop, none-counts, all-get_or, elem-take}
 use Rattle.links.proofs.RangeLaws.{none_passes}
 use Rattle.links.proofs.PartLaws.{length-table, get_or-table, table-zero, table-add}
 
@@ -31,7 +31,7 @@ module _ (owners : List ℕ) (i : ℕ) (h : i < length owners) where
 -- with no stray owner, each is below k
 pub all-below : (k : ℕ) (owners : List ℕ) → stray_owner k owners ≡ false → (i : ℕ) → i < length owners → at owners i < k
 unfolding stray_owner
-all-below k owners e i h = leb-false k (at owners i) (all_get_d owners i 0 h (λ x. leb k x ≡ false) (any_none (leb k) owners e))
+all-below k owners e i h = leb-false k (at owners i) (all-get_or owners i 0 h (λ x. leb k x ≡ false) (any_none (leb k) owners e))
 
 pub marked-none : (marks : List ℕ) → Marked [] marks marks
 marked-none marks = record { same_length = refl; entries = λ r h. refl }

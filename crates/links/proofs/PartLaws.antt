@@ -23,8 +23,8 @@ pub length_part : (w : List ℕ) (a e : ℕ) → a ≤ e → e ≤ length w → 
 length_part w a e h k = length-take-le (e - a) (drop a w) (simp length-drop (omega arith))
 
 -- its elements
-pub get_d_part : (w : List ℕ) (a e i : ℕ) → i < e - a → get_or (part w a e) i 0 ≡ get_or w (a + i) 0
-get_d_part w a e i h = rw (get_or-take, get_or-drop)
+pub get_or-part : (w : List ℕ) (a e i : ℕ) → i < e - a → get_or (part w a e) i 0 ≡ get_or w (a + i) 0
+get_or-part w a e i h = rw (get_or-take, get_or-drop)
 
 -- two lists as long, which agree at each index from b up to f, have the same part there
 pub part-agree : (v w : List ℕ) (b f : ℕ) → length v ≡ length w → ((i : ℕ) → b ≤ i → i < f → get_or v i 0 ≡ get_or w i 0) → part v b f ≡ part w b f
@@ -32,7 +32,7 @@ part-agree v w b f l h =
     ext_get_or 0 (part v b f) (part w b f) (simp (length-take, length-drop, l))
     (λ i m.
     let m' : i < f - b = omega (arith, simp (length-take, length-drop) at m) in
-    rw (get_d_part v b f i m', get_d_part w b f i m') (h (b + i) (omega arith) (omega arith)))
+    rw (get_or-part v b f i m', get_or-part w b f i m') (h (b + i) (omega arith) (omega arith)))
 
 least : (f b n l : ℕ) → f ≤ n → min (f - b) (min n l - b) ≡ min (f - b) (l - b)
 least f b n l h = omega arith
@@ -51,7 +51,7 @@ part-part w a e b f h =
     let m' : i < f - b = short i (f - b) (length (drop b (part w a e))) (rw length-take at m) in
     let p : a + (b + i) ≡ a + b + i = omega arith in
     let q : i < a + f - (a + b) = omega arith in
-    get_d_part (part w a e) b f i m' ∙ get_d_part w a e (b + i) (omega arith) ∙ rw (p, get_d_part w (a + b) (a + f) i q))
+    get_or-part (part w a e) b f i m' ∙ get_or-part w a e (b + i) (omega arith) ∙ rw (p, get_or-part w (a + b) (a + f) i q))
 
 -- ---- a part that comes back
 
@@ -337,7 +337,7 @@ module _ (w w' : List ℕ) (a n x : ℕ) (h : a + n ≤ length w) (e : w' ≡ fi
       ∙ ap (λ (m : ℕ). replicate m x) z
 
   pub filled_at : (i : ℕ) → i < n → at w' (a + i) ≡ x
-  filled_at i k = sym (get_d_part w' a (a + n) i (omega arith)) ∙ ap (λ (v : List ℕ). at v i) filled-part ∙ get_or-replicate n i x 0 k
+  filled_at i k = sym (get_or-part w' a (a + n) i (omega arith)) ∙ ap (λ (v : List ℕ). at v i) filled-part ∙ get_or-replicate n i x 0 k
 
 module _ (w w' : List ℕ) (a n : ℕ) (s : List ℕ) (h : a + n ≤ length w) (l : length s ≡ n) (e : w' ≡ copied_part w a (a + n) s) where
   s' : length s ≡ a + n - a

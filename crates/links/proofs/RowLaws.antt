@@ -12,7 +12,7 @@ use Rattle.links.specs.Lists.{at, All, range, elem}
 use Rattle.links.specs.Parts.{part}
 use Rattle.links.specs.Graph.{row, degree, rows_of, vertex_count, neighbors_of, neighbors_cause, strictly_rising, SoundLists}
 use Rattle.links.proofs.ListLaws.{split, length-range}
-use Rattle.links.proofs.PartLaws.{length_part, get_d_part}
+use Rattle.links.proofs.PartLaws.{length_part, get_or-part}
 use Rattle.links.proofs.ApartLaws.{rises_by}
 
 pub get_or-map-range : {A : Type 0} (d : A) (f : ℕ → A) (i n k : ℕ) → k < n → get_or (map f (range i n)) k d ≡ f (i + k)
@@ -78,7 +78,7 @@ module _ (o l : List ℕ) (s : SoundLists o l) where
     length-row = ap length row_is ∙ length_part l (at o v) (at o (v + 1)) (s.rises v h) (offsets-fit (v + 1) (omega arith))
 
     pub row_at : (i : ℕ) → i < length (row (rows_of o l) v) → at (row (rows_of o l) v) i ≡ at l (at o v + i)
-    row_at i m = ap (λ (r : List ℕ). at r i) row_is ∙ get_d_part l (at o v) (at o (v + 1)) i (rw length-row at m)
+    row_at i m = ap (λ (r : List ℕ). at r i) row_is ∙ get_or-part l (at o v) (at o (v + 1)) i (rw length-row at m)
 
     pub row_below : (i : ℕ) → i < length (row (rows_of o l) v) → at (row (rows_of o l) v) i < vertex_count o
     row_below i m =

@@ -6,6 +6,9 @@ ghost use Rattle.links.specs.ListTest.{valid_row, valid_rows, mirrored_row, mirr
 
 use crate::parts::{index, wide};
 
+// The most neighbor entries of a site.
+const MAX_ENTRIES: usize = 131072;
+
 // How many vertices the offsets have: their number less 1, 0 if there are none.
 // Rules out: one vertex where there are no offsets; a vertex for the last offset.
 pub fn vertex_count(offsets: &[u32]) -> usize
@@ -218,7 +221,7 @@ pub fn site_cause(offsets: &[u32], neighbors: &[u32]) -> u32
     if vertex_count(offsets) > 16384 {
         return 3;
     }
-    if neighbors.len() > 131072 {
+    if neighbors.len() > MAX_ENTRIES {
         return 3;
     }
     lists_cause(offsets, neighbors)

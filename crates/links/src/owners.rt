@@ -8,7 +8,10 @@ ghost use Rattle.links.specs.Owners.{counts_cause, stray_owner, from_owners, Mar
 use crate::lists::any_from;
 use crate::parts::index;
 
-#[derive(Drop)]
+// How many ranks have a place in an array of counts.
+const RANK_PLACES: usize = 256;
+
+#[derive(Clone, Copy)]
 pub enum Assignment {
     Valid,
     Refused(u32),
@@ -27,7 +30,7 @@ impl Assignment {
     }
 }
 
-#[derive(Drop)]
+#[derive(Clone, Copy)]
 pub enum Owner {
     Rank(u32),
     Refused(u32),
@@ -46,7 +49,7 @@ impl Owner {
     }
 }
 
-#[derive(Drop)]
+#[derive(Clone, Copy)]
 pub enum Count {
     Owned(u64),
     Refused(u32),
@@ -110,7 +113,7 @@ fn add_vertex(counts: &mut [u64; 256], rank: usize)
     requires { (length counts.old ≡ 256) × (at counts.old rank < 18446744073709551615) }
     ensures { counts.new ≡ set counts.old rank (at counts.old rank + 1) }
 {
-    if rank < 256 {
+    if rank < RANK_PLACES {
         counts[rank] += 1;
     }
 }

@@ -13,7 +13,7 @@ use Rattle.links.specs.Parts.{part, Kept}
 use Rattle.links.specs.Graph.{row, vertices, cut_entries, foreign_neighbors, volume, Sound, OwnedLists}
 use Rattle.links.proofs.ListLaws.{split, eqb-sym, and_l, and_r, and_i, or-true, or-false, iff-eq, tally, count, count-length, all_in, all-range, length-range, any_of, to-any, elem-range, elem-map, elem-take, none-filter, total, total_ext, total-add, total-point, total_left, total-done, sum-total, and-false, and-true, count-range, total-swap}
 use Rattle.links.proofs.RangeLaws.{filter-ext}
-use Rattle.links.proofs.PartLaws.{length_part, get_d_part, kept_refl, kept_trans, kept_set}
+use Rattle.links.proofs.PartLaws.{length_part, get_or-part, kept_refl, kept_trans, kept_set}
 use Rattle.links.proofs.RowLaws.{all-place}
 use Rattle.stages.specs.Level.{offsets_at, neighbors_at, rows_at, owners_at, Ready}
 use Rattle.stages.specs.declared.level.HierarchyLevel.{HierarchyLevel}
@@ -162,7 +162,7 @@ module _ (w₀ : List ℕ) (own seen ranks a e home mark : ℕ) (p : Legible w�
     owner_at =
         let z : a + (i - a) ≡ i = omega arith in
         at_map (λ u. at w₀ (own + u)) (part w₀ a e) (i - a) (rw (length_part w₀ a e p.from-to (omega (arith, p.under, p.inside))) (omega arith))
-        ∙ ap (λ (u : ℕ). at w₀ (own + u)) (get_d_part w₀ a e (i - a) (omega arith) ∙ ap (at w₀) z)
+        ∙ ap (λ (u : ℕ). at w₀ (own + u)) (get_or-part w₀ a e (i - a) (omega arith) ∙ ap (at w₀) z)
         ∙ sym owner-read
 
     -- a rank other than this one is met as before
@@ -296,7 +296,7 @@ module _ (w : List ℕ) (l : HierarchyLevel) (seen ranks : ℕ) (g : Measurable 
       let sized : length (row (rows_at w l) v) ≡ to - from = ap length (sym (row_lies w l seen r v h)) ∙ length_part w from to (omega (arith, offset-rises w l seen r v h)) fits in
       let z : from + (i - from) ≡ i = omega arith in
       let e : at (row (rows_at w l) v) (i - from) ≡ at w i =
-      ap (λ (y : List ℕ). at y (i - from)) (sym (row_lies w l seen r v h)) ∙ get_d_part w from to (i - from) (omega arith) ∙ ap (at w) z in
+      ap (λ (y : List ℕ). at y (i - from)) (sym (row_lies w l seen r v h)) ∙ get_or-part w from to (i - from) (omega arith) ∙ ap (at w) z in
       rw e at (all-place (λ u. u < l.vertices) (row (rows_at w l) v) (i - from) (neighbors-below r v h) (rw sized (omega arith)))
 
   pub vertex-legible : Marked w seen ranks v → Legible w l.owners seen ranks (row_from w l v) (row_from w l (v + 1)) (v + 1)

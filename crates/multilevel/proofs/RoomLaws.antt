@@ -16,7 +16,7 @@ use Rattle.stages.specs.Level.{offsets_at, neighbors_at, rows_at, weights_at, gr
 use Rattle.stages.specs.declared.level.HierarchyLevel.{HierarchyLevel}
 use Rattle.links.proofs.ListLaws.{split}
 use Rattle.links.proofs.RowLaws.{all-place, row_is, offsets-fit}
-use Rattle.links.proofs.PartLaws.{length_part, get_d_part, part-part, kept_refl, kept_set, kept-part-before}
+use Rattle.links.proofs.PartLaws.{length_part, get_or-part, part-part, kept_refl, kept_set, kept-part-before}
 use Rattle.multilevel.specs.Room.{unit_of, level_at, Stacked, TakenOver}
 use Rattle.stages.proofs.LevelLaws.{count-vertices, length-neighbors}
 
@@ -51,10 +51,10 @@ module _ (w w₀ : List ℕ) (a e : ℕ) (k : Kept a e w w₀) (l : HierarchyLev
 module _ (w : List ℕ) (l : HierarchyLevel) (end : ℕ) (r : Ready w l end) where
   -- the offset of v, and the owner
   pub offset-lies : (v : ℕ) → v ≤ l.vertices → at w (l.offsets + v) ≡ at (offsets_at w l) v
-  offset-lies v h = sym (get_d_part w l.offsets (l.offsets + (l.vertices + 1)) v (omega arith))
+  offset-lies v h = sym (get_or-part w l.offsets (l.offsets + (l.vertices + 1)) v (omega arith))
 
   pub owner-lies : (v : ℕ) → v < l.vertices → at w (l.owners + v) ≡ at (owners_at w l) v
-  owner-lies v h = sym (get_d_part w l.owners (l.owners + l.vertices) v (omega arith))
+  owner-lies v h = sym (get_or-part w l.owners (l.owners + l.vertices) v (omega arith))
 
   pub offset-in : (v : ℕ) → v ≤ l.vertices → at w (l.offsets + v) ≤ l.entries
   offset-in v h =
@@ -97,7 +97,7 @@ module _ (w₀ : List ℕ) (l coarse : HierarchyLevel) (s : Stacked w₀ l coars
   pub group-in : (v : ℕ) → v < l.vertices → at w₀ (l.fine_to_coarse + v) < coarse.vertices
   group-in v h =
       let a = l.fine_to_coarse in
-      let e = get_d_part w₀ a (a + l.vertices) v (omega arith) in
+      let e = get_or-part w₀ a (a + l.vertices) v (omega arith) in
       let n : length (group_at w₀ l) ≡ l.vertices = length_part w₀ a (a + l.vertices) (omega arith) (omega (arith, s.map-in, s.above, s.inside)) ∙ omega arith in
       rw e at (all-place (λ g. g < coarse.vertices) (group_at w₀ l) v s.groups (rw n h))
 
@@ -138,10 +138,10 @@ module _ (w₀ : List ℕ) (l coarse : HierarchyLevel) (s : Stacked w₀ l coars
               let m : i < n = rw owns at k in
               let q = at w₀ (a + i) in
               let r : q < coarse.vertices = group-in i m in
-              get_d_part w own (own + n) i (omega arith)
+              get_or-part w own (own + n) i (omega arith)
               ∙ t.passed i (omega arith)
-              ∙ sym (get_d_part w₀ coarse.owners (coarse.owners + coarse.vertices) q (omega arith))
-              ∙ ap (at (owners_at w₀ coarse)) (sym (get_d_part w₀ a (a + n) i (omega arith)))
+              ∙ sym (get_or-part w₀ coarse.owners (coarse.owners + coarse.vertices) q (omega arith))
+              ∙ ap (at (owners_at w₀ coarse)) (sym (get_or-part w₀ a (a + n) i (omega arith)))
               ∙ sym (at_map (at (owners_at w₀ coarse)) (group_at w₀ l) i (rw groups m)));
           frame = t.frame;
         }

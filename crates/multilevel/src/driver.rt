@@ -21,7 +21,7 @@ use stages::{
 };
 
 // What a division answers: its stats, or the refusal's number.
-#[derive(Drop)]
+#[derive(Clone, Copy)]
 pub enum Answer {
     Divided(AbtmMultilevelStats),
     Refused(u32),

@@ -11,8 +11,11 @@ const LIST_LENGTH: u64 = 8;
 
 const PASS_FACTOR: u64 = 4;
 
+// From how many vertices on each must have a link.
+const LINKED_FROM: u32 = 2;
+
 // What a file says of its site: sizes and options.
-#[derive(Drop)]
+#[derive(Clone, Copy)]
 pub struct Sizes {
     pub vertices: u32,
     pub links: u32,
@@ -20,7 +23,7 @@ pub struct Sizes {
     pub options: AbtmMultilevelOptions,
 }
 
-#[derive(Drop)]
+#[derive(Clone, Copy)]
 pub enum Read {
     Site(Sizes),
     Refused(u32),
@@ -222,7 +225,7 @@ fn has_lone(b: &[u8], e: usize, n: u32) -> bool
     requires { Sized b.now e × (n ≡ vertex_count_of b.now) }
     ensures { result ≡ has_lone b.now }
 {
-    if n < 2 {
+    if n < LINKED_FROM {
         return false;
     }
     let mut v = n;

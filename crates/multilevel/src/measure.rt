@@ -8,7 +8,7 @@ ghost use Rattle.multilevel.specs.Measure.{Met, Legible, RowMet, Measurable, Mar
 use links::{cut_entries, fill_part, index};
 use stages::HierarchyLevel;
 
-#[derive(Drop)]
+#[derive(Clone, Copy)]
 pub struct Measures {
     pub cut: u64,
     pub volume: u64,

@@ -7,7 +7,7 @@ use lib.ListN.{length, set, length-set}
 use lib.Seq.{get_or-set_other}
 use Rattle.links.specs.Lists.{at}
 use Rattle.links.specs.Parts.{part}
-use Rattle.links.proofs.PartLaws.{get_d_part, length_part, part-agree, part-set-in, part-set-before, part-set-after}
+use Rattle.links.proofs.PartLaws.{get_or-part, length_part, part-agree, part-set-in, part-set-before, part-set-after}
 use Rattle.stages.specs.FrontierCode.{Memory, memory, memory_in, weights_in, GrowthLaid, Outside, Stored, parked, begun, appended, owning}
 use Rattle.stages.specs.declared.growth.GrowthRoom.{GrowthRoom}
 
@@ -283,27 +283,27 @@ seat-is r g s t = stored-then (λ m. begun m r g) s t
 module _ {l : GrowthRoom} (w : List ℕ) (h : GrowthLaid l (length w)) (r : ℕ) (q : r < l.ranks) where
   pub read-load : at w (l.loads + r) ≡ at (memory_in l w).loads r
   unfolding memory_in memory
-  read-load = sym (get_d_part w l.loads (l.loads + l.ranks) r (omega arith))
+  read-load = sym (get_or-part w l.loads (l.loads + l.ranks) r (omega arith))
 
   pub read_head : at w (l.heads + r) ≡ at (memory_in l w).heads r
   unfolding memory_in memory
-  read_head = sym (get_d_part w l.heads (l.heads + l.ranks) r (omega arith))
+  read_head = sym (get_or-part w l.heads (l.heads + l.ranks) r (omega arith))
 
   pub read-tail : at w (l.tails + r) ≡ at (memory_in l w).tails r
   unfolding memory_in memory
-  read-tail = sym (get_d_part w l.tails (l.tails + l.ranks) r (omega arith))
+  read-tail = sym (get_or-part w l.tails (l.tails + l.ranks) r (omega arith))
 
   pub read-place : at w (l.places + r) ≡ at (memory_in l w).places r
   unfolding memory_in memory
-  read-place = sym (get_d_part w l.places (l.places + l.ranks) r (omega arith))
+  read-place = sym (get_or-part w l.places (l.places + l.ranks) r (omega arith))
 
   pub read_count : at w (l.counts + r) ≡ at (memory_in l w).counts r
   unfolding memory_in memory
-  read_count = sym (get_d_part w l.counts (l.counts + l.ranks) r (omega arith))
+  read_count = sym (get_or-part w l.counts (l.counts + l.ranks) r (omega arith))
 
 pub read-weight
     : (l : GrowthRoom) (w : List ℕ) (g : ℕ) → g < l.level.vertices → at w (l.level.weights + g) ≡ at (weights_in l w) g
-read-weight l w g h = sym (get_d_part w l.level.weights (l.level.weights + l.level.vertices) g (omega arith))
+read-weight l w g h = sym (get_or-part w l.level.weights (l.level.weights + l.level.vertices) g (omega arith))
 
 -- ---- lengths
 

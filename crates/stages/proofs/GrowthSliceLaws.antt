@@ -14,7 +14,7 @@ use Rattle.links.specs.Lists.{at, unassigned, filter, best, range, sum, All}
 use Rattle.links.specs.Best.{held}
 use Rattle.links.specs.Graph.{row, degree, load, rows_of, vertex_count, SoundLists}
 use Rattle.links.proofs.ListLaws.{split, best-kept, all-to}
-use Rattle.links.proofs.PartLaws.{length_part, get_d_part}
+use Rattle.links.proofs.PartLaws.{length_part, get_or-part}
 use Rattle.links.proofs.RowLaws.{length-rows, all-place}
 use Rattle.stages.specs.Level.{offsets_at, neighbors_at, owners_at}
 use Rattle.stages.specs.Coarsen.{by_degree}
@@ -353,7 +353,7 @@ module _ {l : GrowthRoom} {w : List ℕ} (cap r : ℕ) (d : GrowthReady l w) (q 
     pub restart-there : p < l.level.vertices → held (at w (l.order + p)) ≡ restart_in cap l w r
     restart-there h =
         let k : p < length (order_in l w) = omega (arith, order-size) in
-        let e : at (order_in l w) p ≡ at w (l.order + p) = get_d_part w l.order (l.order + l.level.vertices) p (omega arith) in
+        let e : at (order_in l w) p ≡ at w (l.order + p) = get_or-part w l.order (l.order + l.level.vertices) p (omega arith) in
         let g = all-place (λ g. (g < length (weights_in l w)) × (g < length (owners_at w l.level))) (order_in l w) p order-groups k in
         let ne : eqb (at w (l.order + p)) unassigned ≡ false = ne_eqb (at w (l.order + p)) unassigned (λ z. omega (arith, e, g.0, weights-length l w d.laid, d.laid.few)) in
         rw ne (sym (first-is-best ∙ first_found (open_now cap l w r) (order_in l w) p closed-before k (f.found k) ∙ ap some e))

@@ -218,13 +218,13 @@ module _ {w : List ℕ} {l : HierarchyLevel} {s k : ℕ} (P : Growable w l s k) 
           (weights-kept P.level kept below₁)
           ∙ ap (weighted_multisource cap (rows_at w l) (weights_at w l)) chosen
 
-      pub Told-grown
+      pub told-grown
           : (cap : ℕ) {w₂ : List ℕ} {r : Grown}
           → too_heavy cap (weights_at w l) ≡ false
           → Multisource (room_at l s k) cap w₁ w₂ r
           → GrownTold w w₂ l s k cap r
       unfolding room_at memory_in memory
-      Told-grown cap {w₂} {r} h M =
+      told-grown cap {w₂} {r} h M =
           let f : too_few_groups (rows_at w l) k ≡ false = le-ltb (length (rows_at w l)) k (omega (arith, n-is)) in
           let e = restart_count (growth_at w l k cap).turns in
           let o = M.outside in

@@ -12,7 +12,7 @@ use Rattle.links.specs.Lists.{at, unassigned, filter, foldl, sum}
 use Rattle.links.specs.Parts.{filled_part, Kept}
 use Rattle.links.specs.Graph.{row, load}
 use Rattle.links.proofs.ListLaws.{split, and_l, count-length}
-use Rattle.links.proofs.PartLaws.{get_d_part, kept-part-before, filled-kept, filled_at, filled-part}
+use Rattle.links.proofs.PartLaws.{get_or-part, kept-part-before, filled-kept, filled_at, filled-part}
 use Rattle.stages.specs.Coarsen.{by_degree}
 use Rattle.stages.specs.Growth.{Growing, Growth, seeded, seed_owners, grown, weighted_multisource, unowned, rounds, after_turn, restart_count}
 use Rattle.stages.specs.FrontierCode.{cells, front, opens, Memory, memory, rows_in, weights_in, memory_in, GrowthLaid, Outside, cells_of, front_of, Good, Stands, owning, begun, GrowthReady, Stored}
@@ -89,13 +89,13 @@ module _ {l : GrowthRoom} {w w₁ w₂ w₃ : List ℕ} (S : Sown l w)
   unfolding memory_in memory
   loads-blank d q =
       let L = S.laid in
-      get_d_part w₃ l.loads (l.loads + l.ranks) d (omega arith)
+      get_or-part w₃ l.loads (l.loads + l.ranks) d (omega arith)
       ∙ k₃.below (l.loads + d) (omega arith)
       ∙ filled_at w₁ w₂ l.loads l.ranks 0 fit₂ e₂ d q
 
   counts-blank : (d : ℕ) → d < l.ranks → at (memory_in l w₃).counts d ≡ 0
   unfolding memory_in memory
-  counts-blank d q = get_d_part w₃ l.counts (l.counts + l.ranks) d (omega arith) ∙ filled_at w₂ w₃ l.counts l.ranks 0 fit₃ e₃ d q
+  counts-blank d q = get_or-part w₃ l.counts (l.counts + l.ranks) d (omega arith) ∙ filled_at w₂ w₃ l.counts l.ranks 0 fit₃ e₃ d q
 
   pub clear-is : Cleared l w w₃
   clear-is = record {
@@ -174,7 +174,7 @@ module _ {l : GrowthRoom} {w w' : List ℕ} (b : Blank l w) (r : ℕ) (q : r < l
   pub seed-at : at w' (l.seeds + r) ≡ at (seeds_in l w) r
   seed-at =
       let L = b.sown.laid in
-      t.outside.between (l.seeds + r) (omega arith) (omega arith) ∙ sym (get_d_part w l.seeds (l.seeds + l.ranks) r (omega arith))
+      t.outside.between (l.seeds + r) (omega arith) (omega arith) ∙ sym (get_or-part w l.seeds (l.seeds + l.ranks) r (omega arith))
 
   pub seat-pre : (GrowthLaid l (length w')) × (v < l.level.vertices) × (at (memory_in l w').loads r ≡ 0)
   seat-pre = (t.ready.laid, b.sown.seeds.inside r q, t.loads-are r (omega arith))

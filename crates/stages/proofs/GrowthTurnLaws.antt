@@ -190,12 +190,12 @@ module _ {cap : ℕ} {rows : List (List ℕ)} {weights : List ℕ} {k : ℕ} {m 
         let drop-one : filter A (g ∷ xs) ≡ filter A xs = rw gone in
         sym (filter-sub A B (less r q) (front_of rows m r)) ∙ ap (filter A) e ∙ drop-one ∙ sym (ap (filter A) d) ∙ filter-sub A B (less r q) f
 
-    same_None
+    same-none
         : (f : List ℕ)
         → filter (open_to cap weights m.owners r) (front_of rows m r) ≡ []
         → filter (open_to cap weights m.owners r) f ≡ []
         → filter (open_to cap weights os r) (front_of rows m r) ≡ filter (open_to cap weights os r) f
-    same_None f e d = same-sub (open_to cap weights os r) (open_to cap weights m.owners r) (less r q) (front_of rows m r) f (e ∙ sym d)
+    same-none f e d = same-sub (open_to cap weights os r) (open_to cap weights m.owners r) (less r q) (front_of rows m r) f (e ∙ sym d)
 
 -- ---- whole turns
 
@@ -245,5 +245,5 @@ module _ {cap : ℕ} {rows : List (List ℕ)} {weights : List ℕ} {k : ℕ} {m 
           sym (ap kind_of p.0),
           subst (Stands cap rows weights k m') (sym p.1)
               (stands-claim r q t m' g kn u eo here there pf
-              (same_None r q t m' g kn u eo here there pf e (ours [] pf (rest-stay cap rows weights s r [] th)))),
+              (same-none r q t m' g kn u eo here there pf e (ours [] pf (rest-stay cap rows weights s r [] th)))),
         )

@@ -7,7 +7,7 @@ use lib.ListN.{length}
 use Rattle.links.specs.Lists.{at, All}
 use Rattle.links.specs.Parts.{part, Kept}
 use Rattle.links.specs.Graph.{row, degree, vertex_count}
-use Rattle.links.proofs.PartLaws.{length_part, get_d_part, kept-part-before}
+use Rattle.links.proofs.PartLaws.{length_part, get_or-part, kept-part-before}
 use Rattle.links.proofs.RowLaws.{length-rows, row_is, length-row, row_at, row_below, offsets-fit, offsets-rise}
 use Rattle.stages.specs.Level.{offsets_at, neighbors_at, rows_at, weights_at, group_at, owners_at, Laid, Ready}
 use Rattle.stages.specs.CoarsenCode.{resized}
@@ -39,16 +39,16 @@ module _ {w : List ℕ} {l : HierarchyLevel} {end : ℕ} (r : Ready w l end) whe
 
   -- where a number of a part lies
   pub offset-place : (v : ℕ) → v ≤ l.vertices → at (offsets_at w l) v ≡ at w (l.offsets + v)
-  offset-place v h = get_d_part w l.offsets (l.offsets + (l.vertices + 1)) v (omega arith)
+  offset-place v h = get_or-part w l.offsets (l.offsets + (l.vertices + 1)) v (omega arith)
 
   pub neighbor-place : (i : ℕ) → i < l.entries → at (neighbors_at w l) i ≡ at w (l.neighbors + i)
-  neighbor-place i h = get_d_part w l.neighbors (l.neighbors + l.entries) i (omega arith)
+  neighbor-place i h = get_or-part w l.neighbors (l.neighbors + l.entries) i (omega arith)
 
   pub weight-place : (v : ℕ) → v < l.vertices → at (weights_at w l) v ≡ at w (l.weights + v)
-  weight-place v h = get_d_part w l.weights (l.weights + l.vertices) v (omega arith)
+  weight-place v h = get_or-part w l.weights (l.weights + l.vertices) v (omega arith)
 
   pub owner-place : (v : ℕ) → v < l.vertices → at (owners_at w l) v ≡ at w (l.owners + v)
-  owner-place v h = get_d_part w l.owners (l.owners + l.vertices) v (omega arith)
+  owner-place v h = get_or-part w l.owners (l.owners + l.vertices) v (omega arith)
 
   -- the row of v
   module _ (v : ℕ) (h : v < l.vertices) where

@@ -14,7 +14,7 @@ use Rattle.links.specs.Lists.{at, any, insert}
 use Rattle.links.specs.Parts.{part, put_back, Kept}
 use Rattle.links.specs.Graph.{row, links_in, links_to}
 use Rattle.links.proofs.ListLaws.{split, tally, any_of, to-any, elem-map}
-use Rattle.links.proofs.PartLaws.{get_d_part, length_part, part-put_back, kept_refl, kept_trans, kept-wide, kept_set, kept-put_back, kept-part-before, kept-part-after}
+use Rattle.links.proofs.PartLaws.{get_or-part, length_part, part-put_back, kept_refl, kept_trans, kept-wide, kept_set, kept-put_back, kept-part-before, kept-part-after}
 use Rattle.stages.specs.Level.{offsets_at, neighbors_at, rows_at, owners_at}
 use Rattle.stages.specs.Swaps.{candidates}
 use Rattle.stages.specs.Keys.{candidate, key_of, higher, filled, Falling}
@@ -122,7 +122,7 @@ sorted-empty {w} {s} g z a b p q i j h k =
     let m = pair-below a b s.limits.ranks p q in
     let n : j < s.list_length = omega (arith, length_part w l (l + s.list_length) (omega arith) (omega (arith, g.lists-in))) in
     let e : s.lists + (12 * (a * s.limits.ranks + b) + j) ≡ l + j = omega arith in
-    let y : at (part w l (l + s.list_length)) j ≡ 0 = get_d_part w l (l + s.list_length) j (omega arith) ∙ (rw e at (z (12 * (a * s.limits.ranks + b) + j) (omega arith))) in
+    let y : at (part w l (l + s.list_length)) j ≡ 0 = get_or-part w l (l + s.list_length) j (omega arith) ∙ (rw e at (z (12 * (a * s.limits.ranks + b) + j) (omega arith))) in
     omega arith
 
 -- the room stays where something from the used flags on changed

@@ -14,7 +14,7 @@ use Rattle.links.specs.Best.{held, step_best}
 use Rattle.links.specs.Parts.{part, filled_part, Kept}
 use Rattle.links.specs.Graph.{row, degree, vertices, vertex_count, Sound}
 use Rattle.links.proofs.ListLaws.{split, all_filter, all-range, filter_none, best_none, best-all, best-kept, not-of, iff-eq}
-use Rattle.links.proofs.PartLaws.{length_part, get_d_part, part-set-end, kept_set, kept_trans, kept-wide, kept-part-after, filled-kept, filled_at}
+use Rattle.links.proofs.PartLaws.{length_part, get_or-part, part-set-end, kept_set, kept_trans, kept-wide, kept-part-after, filled-kept, filled_at}
 use Rattle.links.proofs.RowLaws.{length-row, row_at, offsets-fit}
 use Rattle.links.proofs.RangeLaws.{filter-ext}
 use Rattle.stages.specs.Level.{Ready, offsets_at, neighbors_at, rows_at}
@@ -181,7 +181,7 @@ searchable rows r sound few h =
 -- a level below scratch lies as the search asks
 module _ {w : List ℕ} {l : HierarchyLevel} {s : ℕ} (R : Ready w l s) (room : s + 2 * l.vertices ≤ length w) where
   offset_at : (v : ℕ) → v ≤ l.vertices → at (offsets_at w l) v ≡ from w l.offsets v
-  offset_at v h = get_d_part w l.offsets (l.offsets + (l.vertices + 1)) v (omega arith)
+  offset_at v h = get_or-part w l.offsets (l.offsets + (l.vertices + 1)) v (omega arith)
 
   module _ (v : ℕ) (h : v < length (rows_at w l)) where
     v_low : v < l.vertices
@@ -202,7 +202,7 @@ module _ {w : List ℕ} {l : HierarchyLevel} {s : ℕ} (R : Ready w l s) (room :
     entry i k =
         ap (λ (x : ℕ). from w l.neighbors (x + i)) (sym (offset_at v (omega (arith, v_low))))
         ∙ sym
-        (get_d_part w l.neighbors (l.neighbors + l.entries) (at (offsets_at w l) v + i) (omega (arith, offset_at v (omega (arith, v_low)), step, fits)))
+        (get_or-part w l.neighbors (l.neighbors + l.entries) (at (offsets_at w l) v + i) (omega (arith, offset_at v (omega (arith, v_low)), step, fits)))
         ∙ sym (row_at (offsets_at w l) (neighbors_at w l) R.lists v v-in i k)
 
   pub lies : Lies (rows_at w l) w l s
@@ -319,7 +319,7 @@ module _ {w₀ : List ℕ} {l : HierarchyLevel} {s k : ℕ} (P : Seedable w₀ l
         distance = ext_get_or 0 (part w s (s + l.vertices)) (distances rows F)
             (m ∙ sym (distances-length rows lies₀.sound F lies₀.few ∙ n-is))
             (λ i h. let i' : i < l.vertices = rw m at h in
-            get_d_part w s (s + l.vertices) i (omega arith)
+            get_or-part w s (s + l.vertices) i (omega arith)
             ∙ K.distance i (omega (arith, n-is))
             ∙ ap (λ (z : ℕ). at (distances rows (farthest_seeds rows z)) i) e);
         kept = K.kept;

@@ -7,7 +7,7 @@ use native.Mathlib.Numerals.{add-one}
 use lib.ListN.{length, take}
 use Rattle.links.specs.Lists.{at, All, foldl, range, concat_map}
 use Rattle.links.specs.Parts.{part, Kept}
-use Rattle.links.proofs.PartLaws.{get_d_part, kept_refl, kept_trans, kept-wide}
+use Rattle.links.proofs.PartLaws.{get_or-part, kept_refl, kept_trans, kept-wide}
 use Rattle.links.proofs.RangeLaws.{range_snoc, concat-append}
 use Rattle.stages.specs.Level.{offsets_at, neighbors_at, rows_at, weights_at, owners_at, Ready, balance_in}
 use Rattle.stages.specs.Moves.{Step, after}
@@ -77,7 +77,7 @@ module _ {w : List ℕ} {s : SwapRoom} (g : Given w s) where
   first_of : (z : ℕ) → at w z ≡ 0 → filled (part w z (z + s.list_length)) ≡ []
   first_of z e =
       let i : z + 0 ≡ z = omega arith in
-      filled_none (part w z (z + s.list_length)) (get_d_part w z (z + s.list_length) 0 (omega (arith, g.some-listed)) ∙ ap (at w) i ∙ e)
+      filled_none (part w z (z + s.list_length)) (get_or-part w z (z + s.list_length) 0 (omega (arith, g.some-listed)) ∙ ap (at w) i ∙ e)
 
   -- two places of lists
   module _ (owners : List ℕ) (f : Holding w s owners) {a b : ℕ} (p : a < k) (q : b < k) (d : a < b) (x y : ℕ) (ex : x ≡ list_place s a b) (ey : y ≡ list_place s b a) where
@@ -105,13 +105,13 @@ module _ {w : List ℕ} {s : SwapRoom} (g : Given w s) where
     holding-on owners f a b p q d = list-kept s t.kept (omega (arith, g.tallies-in)) a b ∙ f a b p q d ∙ rw same_rows
 
     -- one pair more
-    pub Pair-turn
+    pub pair-turn
         : {w₂ : List ℕ} {more : ℕ} (owners : List ℕ) (a b : ℕ)
         → ps ≡ rank_proposals s.list_length (rows_at w s.level) owners a b
         → a < b
         → Taken w₁ w₂ s more (proposals s.list_length (rows_at w₁ s.level) owners a b)
         → Taken w w₂ s (done + more) (rank_proposals s.list_length (rows_at w s.level) owners a (b + 1))
-    Pair-turn {w₂} {more} owners a b e h u =
+    pair-turn {w₂} {more} owners a b e h u =
         let f = proposals s.list_length (rows_at w s.level) owners a in
         let n : b + 1 - suc a ≡ suc (b - suc a) = omega arith in
         let split_off : rank_proposals s.list_length (rows_at w s.level) owners a (b + 1) ≡ ps ++ f b =

@@ -381,7 +381,7 @@ fn turn(work: &mut [u32], room: GrowthRoom, cap: u64, cursors: &mut [u32; 256], 
 }
 
 // What a round did.
-#[derive(Drop)]
+#[derive(Clone, Copy)]
 pub struct Tally {
     pub claims: u64,
     pub restarts: u64,
@@ -469,7 +469,7 @@ fn next_round(i: usize, n: usize, claims: u64) -> usize
 }
 
 // The restarts of a growth, or its refusal.
-#[derive(Drop)]
+#[derive(Clone, Copy)]
 pub enum Grown {
     Owned(u64),
     Refused(u32),

@@ -13,7 +13,7 @@ use super::order::degree_in;
 use links::{Assignment, fill_part, from_owners, index, store_part, wide};
 
 // What a rank offers a vertex: the gain of the move there, 0 if the rank has no room for it; and its load.
-#[derive(Drop)]
+#[derive(Clone, Copy)]
 pub struct Offer {
     pub gain: u32,
     pub load: u32,
@@ -21,7 +21,7 @@ pub struct Offer {
 }
 
 // The number of moves; or why the owners after them are none of a division.
-#[derive(Drop)]
+#[derive(Clone, Copy)]
 pub enum Refined {
     Moved(u64),
     Refused(u32),

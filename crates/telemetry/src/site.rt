@@ -9,14 +9,14 @@ use crate::ratio::imbalance;
 use links::{Assignment, from_owners, index, neighbors_of, owned_counts, site_cause, vertex_count};
 
 // The two ratios of the Rust's struct of this name that management reads.
-#[derive(Drop)]
+#[derive(Clone, Copy)]
 pub struct PartitionTelemetry {
     pub owned_dof_imbalance: f64,
     pub local_nnz_imbalance: f64,
 }
 
 // The ratios, or a refusal.
-#[derive(Drop)]
+#[derive(Clone, Copy)]
 pub enum Telemetry {
     Measured(PartitionTelemetry),
     Refused(u32),

@@ -9,7 +9,7 @@ use crate::site::{most_owned, telemetry_cause};
 use links::{cut_entries, index, wide};
 
 // The sums, and the site with the largest share, from 0.
-#[derive(Drop)]
+#[derive(Clone, Copy)]
 pub struct Totals {
     pub vertices: u64,
     pub ranks: u64,
@@ -18,7 +18,7 @@ pub struct Totals {
 }
 
 // The sums, or a refusal.
-#[derive(Drop)]
+#[derive(Clone, Copy)]
 pub enum SitesBalance {
     Added(Totals),
     Refused(u32),
@@ -38,7 +38,7 @@ impl SitesBalance {
 }
 
 // Where a site begins in each slice.
-#[derive(Drop)]
+#[derive(Clone, Copy)]
 pub struct Place {
     pub offsets: usize,
     pub neighbors: usize,
@@ -46,7 +46,7 @@ pub struct Place {
 }
 
 // What a site counts: its vertices, ranks and cut links, and the most vertices that a rank owns.
-#[derive(Drop)]
+#[derive(Clone, Copy)]
 pub struct SiteCounts {
     pub vertices: u64,
     pub ranks: u64,
@@ -55,7 +55,7 @@ pub struct SiteCounts {
 }
 
 // The sites so far: their sums, and the one with the largest share, which is share / size.
-#[derive(Drop)]
+#[derive(Clone, Copy)]
 pub struct Sum {
     pub vertices: u64,
     pub ranks: u64,

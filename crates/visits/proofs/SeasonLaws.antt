@@ -13,7 +13,7 @@ use Rattle.links.specs.Lists.{at, any, range, sum}
 use Rattle.links.specs.Parts.{part, table}
 use Rattle.links.specs.Graph.{owned}
 use Rattle.links.specs.Owners.{from_owners}
-use Rattle.links.proofs.ListLaws.{split, or_l, or_r, all_get_d, all-range, any_none, any_of, all_in, elem-range, to-any, sum-take, sum-append}
+use Rattle.links.proofs.ListLaws.{split, or_l, or_r, all-get_or, all-range, any_none, any_of, all_in, elem-range, to-any, sum-take, sum-append}
 use Rattle.links.proofs.CauseLaws.{cause-fails}
 use Rattle.links.proofs.RangeLaws.{none_passes}
 use Rattle.links.proofs.PartLaws.{length_part, fill, length-table, get_or-table}
@@ -27,7 +27,7 @@ use Rattle.visits.proofs.WindowLaws.{open-spanned, open_at, open-rises}
 -- ---- where a rank's days lie
 
 count-few : (counts : List ℕ) → FewCounts counts → (r : ℕ) → r < length counts → at counts r ≤ 32
-count-few counts f r h = ltb-false 32 (at counts r) (all_get_d counts r 0 h (λ x. ltb 32 x ≡ false) (any_none (ltb 32) counts f.low))
+count-few counts f r h = ltb-false 32 (at counts r) (all-get_or counts r 0 h (λ x. ltb 32 x ≡ false) (any_none (ltb 32) counts f.low))
 
 pub from_more : (counts : List ℕ) (r : ℕ) → r < length counts → days_from counts (r + 1) ≡ days_from counts r + 2 * at counts r
 from_more counts r h = omega (arith, sum-take counts r h)
@@ -183,7 +183,7 @@ module _ (k : ℕ) (owners counts days : List ℕ) (room : ℕ) where
 -- the owner of a vertex is one of the ranks
 pub owner-there : (owners counts days : List ℕ) (room : ℕ) → Plannable owners counts days room → (v : ℕ) → v < length owners → (at owners v < length counts) × (at owners v < 256)
 owner-there owners counts days room p v h =
-    let there : at owners v < length counts = all_get_d owners v 0 h (λ o. o < length counts) p.ranked in
+    let there : at owners v < length counts = all-get_or owners v 0 h (λ o. o < length counts) p.ranked in
     (there, omega (arith, there, p.good.laid.few.ranks))
 
 module _ (owners counts days : List ℕ) where
@@ -234,7 +234,7 @@ module _ (k : ℕ) (owners counts days visits : List ℕ) where
     unfolding too_few_days
     enough v h =
         let t = tested-of k owners counts days (length visits) (inl e) in
-        let rank : at owners v < k = all_get_d owners v 0 h (λ o. o < k) (assigned k owners t.owners-pass).ranked in
+        let rank : at owners v < k = all-get_or owners v 0 h (λ o. o < k) (assigned k owners t.owners-pass).ranked in
         let none : too_few_days k owners counts days ≡ false = cause-fails (too_few_days k owners counts days) 19 _ (cause-tested k owners counts days (length visits) t) e in
         let All-there = ltb-false (length (open_days (windows_of counts days (at owners v)))) (owned owners (at owners v)) (none_passes (lacks_days owners counts days) k none (at owners v) rank) in
         omega (arith, All-there, owned-before owners v h)

@@ -9,7 +9,7 @@ use lib.Seq.{drop-cons, get_or-append-add}
 use lib.Dec.{leb, ltb}
 use borrow.Author.Tests.{le-leb, lt-leb, lt-ltb, le-ltb, leb-true, ltb-true}
 use Rattle.links.specs.Lists.{at, filter, range}
-use Rattle.links.proofs.ListLaws.{and_l, and_r, length-range, all-range, filter-all, none-filter, filter-append, all_get_d, all-kept}
+use Rattle.links.proofs.ListLaws.{and_l, and_r, length-range, all-range, filter-all, none-filter, filter-append, all-get_or, all-kept}
 use Rattle.links.proofs.RangeLaws.{range_at, range-join, filter-ext, filter-rises}
 use Rattle.links.proofs.ApartLaws.{rises_by}
 use Rattle.visits.specs.Season.{windows_in, is_open, open_days, good_window, good_from, good_windows}
@@ -139,7 +139,7 @@ open-spanned ws e = open-from 0 ws (omega arith) e
 -- and each of them is open
 pub open_at : (ws : List (ℕ × ℕ)) (j : ℕ) → j < length (open_days ws) → is_open ws (at (open_days ws) j) ≡ true
 unfolding open_days
-open_at ws j h = all_get_d (filter (is_open ws) (range 0 3661)) j 0 h (λ d. is_open ws d ≡ true) (all-kept (λ d. is_open ws d ≡ true) (is_open ws) (λ d e. e) (range 0 3661))
+open_at ws j h = all-get_or (filter (is_open ws) (range 0 3661)) j 0 h (λ d. is_open ws d ≡ true) (all-kept (λ d. is_open ws d ≡ true) (is_open ws) (λ d e. e) (range 0 3661))
 
 -- and they rise
 pub open-rises : (ws : List (ℕ × ℕ)) (i j : ℕ) → i < j → j < length (open_days ws) → at (open_days ws) i < at (open_days ws) j

@@ -9,7 +9,7 @@ ghost use Rattle.visits.specs.CraneCode.{Underway, Swept};
 use links::{between, never_falls, wide};
 
 // The most visits and their first day, or a refusal.
-#[derive(Drop)]
+#[derive(Clone, Copy)]
 pub enum CraneWeek {
     Busiest(u64, u32),
     Refused(u32),
@@ -29,7 +29,7 @@ impl CraneWeek {
 }
 
 // Two places in the list of visits, how many lie between them, and the most so far with their first day.
-#[derive(Drop)]
+#[derive(Clone, Copy)]
 pub struct Sweep {
     pub from: usize,
     pub to: usize,

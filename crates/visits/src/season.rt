@@ -9,7 +9,7 @@ use crate::windows::{count_days, day_at, good_windows};
 use links::{Assignment, any_from, from_owners, index, owned_counts};
 
 // The days are written, or a refusal.
-#[derive(Drop)]
+#[derive(Clone, Copy)]
 pub enum Season {
     Planned,
     Refused(u32),

@@ -13,12 +13,12 @@ returns-then-vertex_count-gt16384 c =
     let a = c.args in
     site-large a.offsets.now a.neighbors.now (simp (lt-ltb 16384 (vertex_count a.offsets.now) (omega (arith, c.vertex_count.ensures, c.if-vertex_count-gt16384.true))))
 
-pub returns-then-neighbors-gt131072 : goal.returns-then-neighbors-gt131072
-returns-then-neighbors-gt131072 c =
+pub returns-then-neighbors-gt-MAX_ENTRIES : goal.returns-then-neighbors-gt-MAX_ENTRIES
+returns-then-neighbors-gt-MAX_ENTRIES c =
     let a = c.args in
-    site-large a.offsets.now a.neighbors.now (simp (lt-ltb 131072 (length a.neighbors.now) (omega (arith, c.if-neighbors-gt131072.true)), or-true))
+    site-large a.offsets.now a.neighbors.now (simp (lt-ltb 131072 (length a.neighbors.now) (omega (arith, c.if-neighbors-gt-MAX_ENTRIES.true)), or-true))
 
 pub returns : goal.returns
 returns c =
     let a = c.args in
-    c.lists_cause.ensures.cause ∙ site-lists a.offsets.now a.neighbors.now (omega (arith, c.vertex_count.ensures, c.if-vertex_count-gt16384.false)) c.if-neighbors-gt131072.false
+    c.lists_cause.ensures.cause ∙ site-lists a.offsets.now a.neighbors.now (omega (arith, c.vertex_count.ensures, c.if-vertex_count-gt16384.false)) c.if-neighbors-gt-MAX_ENTRIES.false

@@ -4,8 +4,8 @@ use native.Mathlib.Omega.{arith}
 use Rattle.multilevel.proofs.FileLaws.{lone-few, lone-found, lone-next, lone-none}
 use Rattle.multilevel.proofs.file.has_lone.Goals as goal
 
-pub returns-then-n-lt2 : goal.returns-then-n-lt2
-returns-then-n-lt2 c = lone-few c.args.b.now c.args.n c.requires.1 (omega (arith, c.if-n-lt2.true))
+pub returns-then-n-lt-LINKED_FROM : goal.returns-then-n-lt-LINKED_FROM
+returns-then-n-lt-LINKED_FROM c = lone-few c.args.b.now c.args.n c.requires.1 (omega (arith, c.if-n-lt-LINKED_FROM.true))
 
 pub loop-v-init : goal.loop-v-init
 loop-v-init c =
@@ -15,7 +15,7 @@ loop-v-init c =
 
 pub returns-then-is_lone : goal.returns-then-is_lone
 returns-then-is_lone c =
-    lone-found c.args.b.now c.args.n c.requires.1 (omega (arith, c.if-n-lt2.false)) (c.loop-v.v - 1)
+    lone-found c.args.b.now c.args.n c.requires.1 (omega (arith, c.if-n-lt-LINKED_FROM.false)) (c.loop-v.v - 1)
     (omega (arith, c.loop-v-test.true, c.loop-v.invariant.0)) (sym c.is_lone.ensures ∙ c.if-is_lone.true)
 
 pub loop-v-smaller : goal.loop-v-smaller
@@ -30,4 +30,4 @@ loop-v-preserved c = (
 
 pub returns : goal.returns
 returns c =
-    lone-none c.args.b.now c.args.n c.requires.1 (omega (arith, c.if-n-lt2.false)) c.loop-v.v (omega (arith, c.loop-v-test.false)) c.loop-v.invariant.1
+    lone-none c.args.b.now c.args.n c.requires.1 (omega (arith, c.if-n-lt-LINKED_FROM.false)) c.loop-v.v (omega (arith, c.loop-v-test.false)) c.loop-v.invariant.1

@@ -3,7 +3,7 @@ use native.Mathlib.Omega.{arith}
 use mathlib.Core.Path.{sym, ◌∙◌, subst}
 use Rattle.stages.specs.GrowthCode.{Sown, Multisource, room_at}
 use Rattle.stages.specs.declared.growth.GrowthRoom.{GrowthRoom}
-use Rattle.stages.proofs.GrowthStageLaws.{weights-fit, told-heavy, told-few, seedable, orderable, sown, Told-grown}
+use Rattle.stages.proofs.GrowthStageLaws.{weights-fit, told-heavy, told-few, seedable, orderable, sown, told-grown}
 use Rattle.stages.proofs.growth.weighted_multisource_partition.Goals as goal
 
 pub heavy_in-requires : goal.heavy_in-requires
@@ -38,5 +38,5 @@ returns c =
     let m = c.multisource in
     let M : Multisource (room_at a.l a.scratch a.ranks) a.cap w m.new.work m.result =
     subst (λ (l : GrowthRoom). Multisource l a.cap w m.new.work m.result) c.room_at.ensures m.ensures in
-    Told-grown c.requires c.if-n-ranks.false c.farthest_seeds.ensures c.order_by_degree.ensures a.cap
+    told-grown c.requires c.if-n-ranks.false c.farthest_seeds.ensures c.order_by_degree.ensures a.cap
     (sym c.heavy_in.ensures ∙ c.if-heavy_in.false) M

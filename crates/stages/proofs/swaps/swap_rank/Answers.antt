@@ -5,7 +5,7 @@ use native.Mathlib.Omega.{arith}
 use Rattle.stages.specs.Level.{rows_at}
 use Rattle.stages.specs.SwapsCode.{Holding, Taken, rank_proposals}
 use Rattle.stages.proofs.SwapStepLaws.{taken_none}
-use Rattle.stages.proofs.SwapPassLaws.{holding-on, Pair-turn, pairs-none}
+use Rattle.stages.proofs.SwapPassLaws.{holding-on, pair-turn, pairs-none}
 use Rattle.stages.proofs.swaps.swap_rank.Goals as goal
 
 pub loop-b-init : goal.loop-b-init
@@ -37,7 +37,7 @@ loop-b-preserved c =
     let p = c.requires in
     let x = c.swap_pair-done in
     let next : (owners : List ℕ) → Holding a.work.now a.s owners → Taken a.work.now x.new.work a.s (l.done + x.result) (rank_proposals a.s.list_length (rows_at a.work.now a.s.level) owners a.a (l.b + 1)) =
-    λ owners f. Pair-turn p.0.given (l.invariant.4 owners f) owners a.a l.b refl (omega arith) (x.ensures.1 owners (holding-on p.0.given (l.invariant.4 owners f) owners f)) in
+    λ owners f. pair-turn p.0.given (l.invariant.4 owners f) owners a.a l.b refl (omega arith) (x.ensures.1 owners (holding-on p.0.given (l.invariant.4 owners f) owners f)) in
     (omega arith, omega arith, omega (arith, x.ensures.0), (next p.2.0 p.2.1).kept.same_length, next)
 
 pub shape_of-work : goal.shape_of-work
