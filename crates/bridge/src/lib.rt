@@ -13,8 +13,8 @@ ghost use Rattle.multilevel.specs.Causes.{call_of};
 ghost use Rattle.bridge.specs.LinkFile.{header_of, ReadAsNumbers};
 ghost use Rattle.bridge.specs.Division.{options_from, stats_numbers, DividedAsNumbers};
 
-use links::{AbtmMultilevelOptions, AbtmMultilevelStats, Count, Owner};
-use multilevel::{Answer, Read, Sizes};
+use links::{AbtmMultilevelOptions, AbtmMultilevelStats, number_of};
+use multilevel::Sizes;
 
 #[unsafe(no_mangle)]
 pub extern "C" fn bridge_load_cap(total: u64, ranks: u32, imbalance_per_mille: u32) -> u64
@@ -49,7 +49,7 @@ fn options_of(numbers: &[u64; 6]) -> AbtmMultilevelOptions
 pub extern "C" fn bridge_validate(options: &[u64; 6]) -> u32
     ensures { result ≡ options_cause (options_from options.now) }
 {
-    options_of(options).validate()
+    number_of(options_of(options).validate())
 }
 
 // 0, or the refusal.
@@ -57,7 +57,7 @@ pub extern "C" fn bridge_validate(options: &[u64; 6]) -> u32
 pub extern "C" fn bridge_from_owners(ranks: u32, owners: &[u32]) -> u32
     ensures { result ≡ from_owners ranks owners.now }
 {
-    links::from_owners(ranks, owners).number()
+    number_of(links::from_owners(ranks, owners))
 }
 
 // 0, or the refusal; the rank of vertex v, or 0, is written.
@@ -68,8 +68,8 @@ pub extern "C" fn bridge_owner_of(owners: &[u32], v: u64, rank: &mut u32) -> u32
 {
     *rank = 0;
     let owner = links::owner_of(owners, v);
-    let Owner::Rank(r) = owner else {
-        return owner.number();
+    let Ok(r) = owner else {
+        return number_of(owner);
     };
     *rank = r;
     0
@@ -83,8 +83,8 @@ pub extern "C" fn bridge_owned_count(ranks: u32, owners: &[u32], rank: u32, coun
 {
     *count = 0;
     let counted = links::owned_count(ranks, owners, rank);
-    let Count::Owned(n) = counted else {
-        return counted.number();
+    let Ok(n) = counted else {
+        return number_of(counted);
     };
     *count = n;
     0
@@ -95,7 +95,7 @@ pub extern "C" fn bridge_owned_count(ranks: u32, owners: &[u32], rank: u32, coun
 pub extern "C" fn bridge_neighbors_cause(offsets: &[u32], neighbors: &[u32], v: u64) -> u32
     ensures { result ≡ neighbors_cause offsets.now neighbors.now v }
 {
-    links::neighbors_cause(offsets, neighbors, v)
+    number_of(links::neighbors_cause(offsets, neighbors, v))
 }
 
 // How many neighbors vertex v has.
@@ -112,8 +112,7 @@ pub extern "C" fn bridge_neighbor(offsets: &[u32], neighbors: &[u32], v: u64, i:
     ensures { result ≡ at (neighbors_of offsets.now neighbors.now v) i }
 {
     let row = links::neighbors_of(offsets, neighbors, v);
-    let at = i as usize;
-    if at < row.len() { row[at] } else { 0 }
+    row.get(i as usize).copied().unwrap_or(0)
 }
 
 // 0, or the refusal.
@@ -121,7 +120,7 @@ pub extern "C" fn bridge_neighbor(offsets: &[u32], neighbors: &[u32], v: u64, i:
 pub extern "C" fn bridge_lists_cause(offsets: &[u32], neighbors: &[u32]) -> u32
     ensures { result ≡ lists_cause offsets.now neighbors.now }
 {
-    links::lists_cause(offsets, neighbors)
+    number_of(links::lists_cause(offsets, neighbors))
 }
 
 // 0, or the refusal.
@@ -129,7 +128,7 @@ pub extern "C" fn bridge_lists_cause(offsets: &[u32], neighbors: &[u32]) -> u32
 pub extern "C" fn bridge_workloads_cause(workloads: &[u32], n: u64) -> u32
     ensures { result ≡ workloads_cause n workloads.now }
 {
-    links::workloads_cause(workloads, n as usize)
+    number_of(links::workloads_cause(workloads, n as usize))
 }
 
 // 0, or the refusal.
@@ -137,7 +136,7 @@ pub extern "C" fn bridge_workloads_cause(workloads: &[u32], n: u64) -> u32
 pub extern "C" fn bridge_link_file_cause(file: &[u8]) -> u32
     ensures { result ≡ file_cause file.now }
 {
-    multilevel::link_file_cause(file)
+    number_of(multilevel::link_file_cause(file))
 }
 
 // The seven numbers of a header, in its order.
@@ -146,9 +145,9 @@ fn header_of(s: Sizes) -> [u64; 7]
 {
     let o = s.options;
     [
-        links::wide(s.vertices),
-        links::wide(s.links),
-        links::wide(s.ranks),
+        u64::from(s.vertices),
+        u64::from(s.links),
+        u64::from(s.ranks),
         o.max_levels,
         o.coarse_vertices_per_rank,
         o.imbalance_per_mille,
@@ -169,8 +168,8 @@ pub extern "C" fn bridge_read_link_file(
 {
     *header = [0; 7];
     let read = multilevel::read_link_file(file, offsets, neighbors, workloads);
-    let Read::Site(sizes) = read else {
-        return read.number();
+    let Ok(sizes) = read else {
+        return number_of(read);
     };
     *header = header_of(sizes);
     0
@@ -193,6 +192,7 @@ fn numbers_of(s: AbtmMultilevelStats) -> [u64; 8]
 }
 
 // 0, or the refusal; the eight stats, or zeros, are written.
+#[tactic(auto, unfolding(links::specs::Options::zero_stats))]
 #[unsafe(no_mangle)]
 pub extern "C" fn bridge_divide(
     offsets: &[u32],
@@ -207,7 +207,7 @@ pub extern "C" fn bridge_divide(
     ensures { DividedAsNumbers (call_of offsets.now neighbors.now workloads.now ranks (options_from options.now) (length owners.old) (length work.old)) owners.old owners.new work.old work.new stats.new result }
 {
     *stats = [0; 8];
-    let a = multilevel::abtm_multilevel_partition(
+    let answer = multilevel::abtm_multilevel_partition(
         offsets,
         neighbors,
         workloads,
@@ -216,8 +216,8 @@ pub extern "C" fn bridge_divide(
         owners,
         work,
     );
-    let Answer::Divided(s) = a else {
-        return a.number();
+    let Ok(s) = answer else {
+        return number_of(answer);
     };
     *stats = numbers_of(s);
     0

@@ -10,8 +10,7 @@ ghost use Rattle.telemetry.specs.Sites.{sites_from, sites_cause, balance_totals,
 ghost use Rattle.compare.specs.Order.{renaming_of};
 ghost use Rattle.compare.specs.Comparison.{comparison_cause, order_code, order_for};
 
-use telemetry::{SitesBalance, Telemetry};
-use visits::CraneWeek;
+use links::number_of;
 
 // 0 and the day of each vertex is written over the front of visits; or the refusal, and nothing is.
 // Rules out: a day written on a refusal; 20 for a season that is planned.
@@ -26,7 +25,7 @@ pub extern "C" fn bridge_season_days(
     ensures number { result ≡ season_cause ranks owners.now counts.now days.now (length visits.old) }
     ensures visits { visits.new ≡ visits_after ranks owners.now counts.now days.now visits.old }
 {
-    visits::season_days(ranks, owners, counts, days, visits).number()
+    number_of(visits::season_days(ranks, owners, counts, days, visits))
 }
 
 // 0, or the refusal; the most visits and their first day, or zeros, are written.
@@ -39,12 +38,12 @@ pub extern "C" fn bridge_crane_week(days: &[u32], w: u32, visits: &mut u64, day:
 {
     *visits = 0;
     *day = 0;
-    let week = visits::crane_week(days, w);
-    let CraneWeek::Busiest(most, first) = week else {
-        return week.number();
+    let answer = visits::crane_week(days, w);
+    let Ok(busiest) = answer else {
+        return number_of(answer);
     };
-    *visits = most;
-    *day = first;
+    *visits = busiest.visits;
+    *day = busiest.day;
     0
 }
 
@@ -62,9 +61,9 @@ pub extern "C" fn bridge_telemetry(
     ensures ratios { ratios.new ≡ ratios_of (telemetry_for offsets.now neighbors.now ranks owners.now) }
 {
     *ratios = [0.0, 0.0];
-    let telemetry = telemetry::partition_telemetry_assignment(offsets, neighbors, ranks, owners);
-    let Telemetry::Measured(t) = telemetry else {
-        return telemetry.number();
+    let answer = telemetry::partition_telemetry_assignment(offsets, neighbors, ranks, owners);
+    let Ok(t) = answer else {
+        return number_of(answer);
     };
     *ratios = [t.owned_dof_imbalance, t.local_nnz_imbalance];
     0
@@ -84,9 +83,9 @@ pub extern "C" fn bridge_sites_balance(
     ensures totals { totals.new ≡ balance_totals (balance_of (sites_from sizes.now offsets.now neighbors.now owners.now)) }
 {
     *totals = [0, 0, 0, 0];
-    let balance = telemetry::sites_balance(sizes, offsets, neighbors, owners);
-    let SitesBalance::Added(t) = balance else {
-        return balance.number();
+    let answer = telemetry::sites_balance(sizes, offsets, neighbors, owners);
+    let Ok(t) = answer else {
+        return number_of(answer);
     };
     *totals = [t.vertices, t.ranks, t.cut_links, t.site];
     0
@@ -108,10 +107,14 @@ pub extern "C" fn bridge_compare_divisions(
     ensures order { order.new ≡ order_code (order_for offsets.now neighbors.now ranks first.now second.now) }
     ensures renaming { renaming.new ≡ renaming_of ranks first.now second.now (order_for offsets.now neighbors.now ranks first.now second.now) }
 {
-    let comparison = compare::compare_divisions(offsets, neighbors, ranks, first, second);
-    let told = comparison.order;
+    *order = 0;
+    *renaming = [0; 256];
+    let answer = compare::compare_divisions(offsets, neighbors, ranks, first, second);
+    let Ok(comparison) = answer else {
+        return number_of(answer);
+    };
     let names = comparison.renaming;
-    *order = told.code();
+    *order = comparison.order.code();
     *renaming = names;
-    told.number()
+    0
 }

@@ -1,13 +1,12 @@
 -- Laws of a lent level: what the causes leave, what copying it leaves, and that the stages can work on it. Assumes nothing.
-use Prim.Native.Nat.{ℕ, ◌+◌, ◌*◌, ◌≤◌, ◌<◌, ◌^◌}
-use mathlib.Core.Path.{◌≡◌, refl, sym, ◌∙◌}
+use Prim.Native.Nat.{ℕ, ◌+◌, ◌≤◌, ◌<◌, ◌^◌}
+use mathlib.Core.Path.{◌≡◌, refl, ◌∙◌}
 use mathlib.Core.Bool.{Bool, true, false, not, ◌||◌, cond}
 use mathlib.Core.List.{List}
 use native.Mathlib.Omega.{arith}
-use native.Mathlib.Nat.{mul-le-mul}
 use lib.ListN.{length}
 use lib.Dec.{leb, ltb, eqb}
-use borrow.Author.Tests.{eqb-true, eq-eqb, ne_eqb, ltb-false, leb-false}
+use borrow.Author.Tests.{eqb-true, ltb-false, leb-false}
 use Rattle.links.specs.Lists.{at, sum}
 use Rattle.links.specs.Parts.{part, copied_part, Kept}
 use Rattle.links.specs.Graph.{vertex_count, bad_lists, SoundLists}
@@ -18,12 +17,9 @@ use Rattle.links.proofs.SoundLaws.{sound-lists}
 use Rattle.links.proofs.OwnerLaws.{all-below}
 use Rattle.stages.specs.declared.level.HierarchyLevel.{HierarchyLevel}
 use Rattle.bridge_stages.specs.declared.lent.Place.{Place}
-use Rattle.bridge_stages.specs.Lent.{Lent, level_at, place_for, place_of, need_of, over_limits, misfit, lent_cause, Limited, LevelFits, LevelLaid, LevelIn}
+use Rattle.bridge_stages.specs.Lent.{Lent, place_of, need_of, over_limits, misfit, lent_cause, Limited, LevelFits, LevelLaid, LevelIn}
 
 -- ---- what the causes leave
-
-pub need-small : (k : ℕ) → k ≤ 256 → k * k ≤ 65536
-need-small k h = mul-le-mul {n₂ = 256} {m₂ = 256} h h
 
 pub record Passed (s : Lent) (work : ℕ) : Type 0 where
   pub limits : Limited (vertex_count s.offsets) (length s.neighbors) s.ranks
@@ -85,45 +81,6 @@ module _ (s : Lent) where
         ranked = all-below s.ranks s.owners z.3;
       }
 
--- ---- the causes, as they are tested
-
-pub unequal : (a n n₁ : ℕ) → n₁ ≡ n → (a ≡ n₁ → ⊥) → not (eqb a n) ≡ true
-unequal a n n₁ e f = rw (ne_eqb a n (λ h. f (h ∙ sym e)))
-
-pub equal : (a n n₁ : ℕ) → n₁ ≡ n → a ≡ n₁ → not (eqb a n) ≡ false
-equal a n n₁ e f = rw (eq-eqb a n (f ∙ e))
-
-module _ (s : Lent) where
-  pub over-is
-      : (b1 b2 b3 b4 : Bool)
-      → ltb 16384 (vertex_count s.offsets) ≡ b1
-      → ltb 131072 (length s.neighbors) ≡ b2
-      → ltb 256 s.ranks ≡ b3
-      → leb (2 ^ 31) (sum s.weights) ≡ b4
-      → (b1 || b2 || b3 || b4) ≡ over_limits s
-  unfolding over_limits
-  over-is b1 b2 b3 b4 e1 e2 e3 e4 = rw (e1, e2, e3, e4)
-
-module _ (s : Lent) (work : ℕ) where
-  pub misfit-is
-      : (b1 b2 b3 : Bool)
-      → not (eqb (length s.weights) (vertex_count s.offsets)) ≡ b1
-      → not (eqb (length s.owners) (vertex_count s.offsets)) ≡ b2
-      → ltb work (need_of s) ≡ b3
-      → (b1 || b2 || b3) ≡ misfit s work
-  unfolding misfit
-  misfit-is b1 b2 b3 e1 e2 e3 = rw (e1, e2, e3)
-
-  pub cause-is
-      : (b1 b2 b3 b4 : Bool)
-      → over_limits s ≡ b1
-      → bad_lists s.offsets s.neighbors ≡ b2
-      → misfit s work ≡ b3
-      → stray_owner s.ranks s.owners ≡ b4
-      → cond b1 3 (cond b2 4 (cond b3 5 (cond b4 12 0))) ≡ lent_cause s work
-  unfolding lent_cause
-  cause-is b1 b2 b3 b4 e1 e2 e3 e4 = rw (e1, e2, e3, e4)
-
 -- ---- what copying leaves
 
 pub level-laid
@@ -166,15 +123,6 @@ level-laid w w₁ w₂ w₃ w₄ l offsets neighbors weights owners f e₁ e₂ 
     }
 
 -- ---- the level in the work slice
-
-pub place_is
-    : {n n₁ k k₁ : ℕ} {l next : HierarchyLevel} (m : ℕ)
-    → n₁ ≡ n
-    → k₁ ≡ k
-    → l ≡ level_at n₁ m 0
-    → next ≡ level_at n₁ m (4 * n₁ + m + 1)
-    → ◌≡◌ {A = Place} (record { level = l; next = next; scratch = 2 * (4 * n₁ + m + 1); lists = 2 * (4 * n₁ + m + 1) + 3 * n₁ + 6 * k₁ }) (place_for n m k)
-place_is m e f g h = rw (g, h, e, f)
 
 module _ (s : Lent) (w : List ℕ) (cause : lent_cause s (length w) ≡ 0) (p : Place) (here : p ≡ place_of s) where
   pub level-fits : LevelFits w p.level s.offsets s.neighbors s.weights s.owners

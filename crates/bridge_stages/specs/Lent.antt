@@ -4,9 +4,10 @@ use Rattle.std.specs.Prelude.{ℕ, ◌+◌, ◌*◌, ◌≤◌, ◌^◌, ◌≡�
 use Rattle.links.specs.Lists.{sum}
 use Rattle.links.specs.Graph.{rows_of, vertex_count, bad_lists}
 use Rattle.links.specs.Owners.{stray_owner}
-use Rattle.stages.specs.Level.{offsets_at, neighbors_at, weights_at, owners_at, Laid, Ready}
+use Rattle.stages.specs.Level.{offsets_at, neighbors_at, weights_at, owners_at, level_at, Laid, Ready}
 use Rattle.stages.specs.MovesCode.{Ranked}
 use Rattle.stages.specs.declared.level.HierarchyLevel.{HierarchyLevel}
+use Rattle.bridge_stages.specs.declared.lent.LentLevel.{LentLevel}
 use Rattle.bridge_stages.specs.declared.lent.Place.{Place}
 
 pub record Lent : Type 0 where
@@ -20,6 +21,10 @@ abbrev pub lent : List ℕ → List ℕ → List ℕ → List ℕ → ℕ → Le
 lent offsets neighbors weights owners ranks =
     record { offsets = offsets; neighbors = neighbors; weights = weights; owners = owners; ranks = ranks }
 
+-- what the caller's slices hold
+abbrev pub slices_of : LentLevel → Lent
+slices_of s = lent s.offsets.now s.neighbors.now s.weights.now s.owners.now s.ranks
+
 abbrev pub rows_in : Lent → List (List ℕ)
 rows_in s = rows_of s.offsets s.neighbors
 
@@ -28,19 +33,6 @@ rows_in s = rows_of s.offsets s.neighbors
 -- the room of a level
 abbrev pub unit_of : ℕ → ℕ → ℕ
 unit_of n m = 4 * n + m + 1
-
--- a level at base: its parts one after the other
-abbrev pub level_at : ℕ → ℕ → ℕ → HierarchyLevel
-level_at n m base =
-    record {
-      vertices = n;
-      entries = m;
-      offsets = base;
-      neighbors = base + (n + 1);
-      weights = base + (n + 1) + m;
-      fine_to_coarse = base + (n + 1) + m + n;
-      owners = base + (n + 1) + m + n + n;
-    }
 
 -- the level, room for the next, the stages' own room, and that of the candidates' lists
 abbrev pub place_for : ℕ → ℕ → ℕ → Place

@@ -1,5 +1,5 @@
 -- The stages over numbers and slices: what each leaves of a lent level. Nothing is promised of the rest of the work slice. Assumes nothing.
-use Rattle.std.specs.Prelude.{ℕ, ◌+◌, ◌≡◌, false, cond, List, length, eqb}
+use Rattle.std.specs.Prelude.{ℕ, ◌+◌, ◌≡◌, false, cond, List, length, eqb, None}
 use Rattle.links.specs.Lists.{foldl}
 use Rattle.links.specs.Loads.{Balance}
 use Rattle.links.specs.Options.{bad_list_length}
@@ -15,7 +15,6 @@ use Rattle.stages.specs.Level.{rows_at, weights_at, group_at, owners_at}
 use Rattle.stages.specs.CoarsenCode.{next_of, answer_of, coarsened_values}
 use Rattle.stages.specs.SeedsCode.{seeds_at}
 use Rattle.stages.specs.GrowthCode.{too_heavy, too_few_groups, left_cause}
-use Rattle.stages.specs.declared.coarsen.Coarsened.TheVariants.{Same}
 use Rattle.bridge_stages.specs.Lent.{Lent, rows_in, place_of, lent_cause}
 
 -- the first number if it is not 0, else the second
@@ -30,7 +29,7 @@ step_of s = coarsen_once (rows_in s) s.weights
 pub record CoarsenedHere (s : Lent) (w w' counts : List ℕ) (number : ℕ) : Type 0 where
   pub number_is : number ≡ lent_cause s (length w)
   pub refused : (number ≡ 0 → ⊥) → w' ≡ w
-  pub counts-are : counts ≡ cond (eqb number 0) (coarsened_values (answer_of (step_of s) (vertex_count s.offsets))) (coarsened_values Same)
+  pub counts-are : counts ≡ cond (eqb number 0) (coarsened_values (answer_of (step_of s) (vertex_count s.offsets))) (coarsened_values None)
   pub group : number ≡ 0 → group_at w' (place_of s).level ≡ (step_of s).group
   pub rows : number ≡ 0 → rows_at w' (next_of (place_of s).next (step_of s)) ≡ (step_of s).rows
   pub weights : number ≡ 0 → weights_at w' (next_of (place_of s).next (step_of s)) ≡ (step_of s).weights

@@ -1,11 +1,53 @@
 // A level as it is lent: tested, and laid into the work slice.
-ghost use Rattle.std.specs.Prelude.{◌≡◌, ◌<◌, ◌^◌, length, leb};
+ghost use Rattle.std.specs.Prelude.{◌≡◌, ◌^◌, length, leb, IfOk};
 ghost use Rattle.links.specs.Lists.{sum};
 ghost use Rattle.links.specs.Graph.{vertex_count};
-ghost use Rattle.bridge_stages.specs.Lent.{lent, level_at, place_for, need_for, Limited, over_limits, misfit, lent_cause, LevelFits, LevelLaid, Entered};
+ghost use Rattle.links.specs.Refusals.{number_of};
+ghost use Rattle.bridge_stages.specs.Lent.{lent, slices_of, place_of, place_for, need_for, Limited, over_limits, misfit, lent_cause, LevelFits, LevelLaid, Entered};
 
-use links::{copy_part, index, lists_cause, stray_owner, vertex_count, wide};
+use links::{Refusal, copy_part, lists_cause, stray_owner, vertex_count};
 use stages::HierarchyLevel;
+
+// Document 01's limits.
+const MAX_VERTICES: usize = 16384;
+
+const MAX_ENTRIES: usize = 131072;
+
+const MAX_RANKS: u32 = 256;
+
+// Weights that add up to so much are too heavy for the stages.
+const TOO_HEAVY: u64 = 2147483648;
+
+// What a caller lends of a level: its lists, a weight and an owner for each vertex, and the number of ranks.
+#[derive(Clone, Copy)]
+pub struct LentLevel<'a> {
+    pub offsets: &'a [u32],
+    pub neighbors: &'a [u32],
+    pub weights: &'a [u32],
+    pub owners: &'a [u32],
+    pub ranks: u32,
+}
+
+impl<'a> LentLevel<'a> {
+    // The level of these slices.
+    pub fn new(
+        offsets: &'a [u32],
+        neighbors: &'a [u32],
+        weights: &'a [u32],
+        owners: &'a [u32],
+        ranks: u32,
+    ) -> LentLevel<'a>
+        ensures { slices_of result ≡ lent offsets.now neighbors.now weights.now owners.now ranks }
+    {
+        LentLevel {
+            offsets,
+            neighbors,
+            weights,
+            owners,
+            ranks,
+        }
+    }
+}
 
 // Where things lie: the level, room for the next, the stages' own room, and that of the candidates' lists.
 #[derive(Clone, Copy)]
@@ -16,39 +58,18 @@ pub struct Place {
     pub lists: usize,
 }
 
-// A level of n vertices and m entries at base: its parts one after the other.
-fn level_at(n: usize, m: usize, base: usize) -> HierarchyLevel
-    requires { (level_at n m base).owners < 2 ^ 64 }
-    ensures { result ≡ level_at n m base }
+fn place_of(s: LentLevel) -> Place
+    requires { Limited (vertex_count s.offsets.now) (length s.neighbors.now) s.ranks }
+    ensures { result ≡ place_of (slices_of s.entry) }
 {
-    let neighbors = base + (n + 1);
-    let weights = neighbors + m;
-    let fine_to_coarse = weights + n;
-    HierarchyLevel {
-        vertices: n,
-        entries: m,
-        offsets: base,
-        neighbors,
-        weights,
-        fine_to_coarse,
-        owners: fine_to_coarse + n,
-    }
-}
-
-pub(crate) fn place_of(offsets: &[u32], neighbors: &[u32], ranks: u32) -> Place
-    requires { Limited (vertex_count offsets.now) (length neighbors.now) ranks }
-    ensures { result ≡ place_for (vertex_count offsets.now) (length neighbors.now) ranks }
-{
-    let n = vertex_count(offsets);
-    let m = neighbors.len();
+    let n = vertex_count(s.offsets);
+    let m = s.neighbors.len();
     let unit = 4 * n + m + 1;
-    let level = level_at(n, m, 0);
-    let next = level_at(n, m, unit);
     Place {
-        level,
-        next,
+        level: HierarchyLevel::at(n, m, 0),
+        next: HierarchyLevel::at(n, m, unit),
         scratch: 2 * unit,
-        lists: 2 * unit + 3 * n + 6 * index(ranks),
+        lists: 2 * unit + 3 * n + 6 * s.ranks as usize,
     }
 }
 
@@ -65,126 +86,75 @@ fn heavy(weights: &[u32]) -> bool
     ensures { result ≡ leb (2 ^ 31) (sum weights.now) }
 {
     let mut total: u64 = 0;
-    let mut i: usize = 0;
-    while i < weights.len() {
-        total = total + wide(weights[i]);
-        if 2147483648 <= total {
+    for weight in weights {
+        total += u64::from(*weight);
+        if total >= TOO_HEAVY {
             return true;
         }
-        i += 1;
     }
     false
 }
 
 // 3: document 01's limits, and the weight that the stages take.
-fn over_limits(
-    offsets: &[u32],
-    neighbors: &[u32],
-    weights: &[u32],
-    owners: &[u32],
-    ranks: u32,
-) -> bool
-    ensures { result ≡ over_limits (lent offsets.now neighbors.now weights.now owners.now ranks) }
+#[tactic(auto, unfolding(crate::specs::Lent::over_limits))]
+fn over_limits(s: LentLevel) -> bool
+    ensures { result ≡ over_limits (slices_of s.entry) }
 {
-    if vertex_count(offsets) > 16384 {
-        return true;
-    }
-    if neighbors.len() > 131072 {
-        return true;
-    }
-    if ranks > 256 {
-        return true;
-    }
-    heavy(weights)
+    vertex_count(s.offsets) > MAX_VERTICES
+        || s.neighbors.len() > MAX_ENTRIES
+        || s.ranks > MAX_RANKS
+        || heavy(s.weights)
 }
 
 // 5: not a weight and an owner for each vertex, or too little work.
-fn misfits(
-    offsets: &[u32],
-    neighbors: &[u32],
-    weights: &[u32],
-    owners: &[u32],
-    ranks: u32,
-    work: usize,
-) -> bool
-    requires { Limited (vertex_count offsets.now) (length neighbors.now) ranks }
-    ensures { result ≡ misfit (lent offsets.now neighbors.now weights.now owners.now ranks) work }
+#[tactic(auto, unfolding(crate::specs::Lent::misfit))]
+fn misfits(s: LentLevel, work: usize) -> bool
+    requires { Limited (vertex_count s.offsets.now) (length s.neighbors.now) s.ranks }
+    ensures { result ≡ misfit (slices_of s.entry) work }
 {
-    let n = vertex_count(offsets);
-    if weights.len() != n {
-        return true;
-    }
-    if owners.len() != n {
-        return true;
-    }
-    work < need_for(n, neighbors.len(), index(ranks))
+    let n = vertex_count(s.offsets);
+    s.weights.len() != n
+        || s.owners.len() != n
+        || work < need_for(n, s.neighbors.len(), s.ranks as usize)
 }
 
-// 0, or the first of 3, 4, 5, 12.
-fn lent_cause(
-    offsets: &[u32],
-    neighbors: &[u32],
-    weights: &[u32],
-    owners: &[u32],
-    ranks: u32,
-    work: usize,
-) -> u32
-    ensures { result ≡ lent_cause (lent offsets.now neighbors.now weights.now owners.now ranks) work }
+// The first of 3, 4, 5, 12.
+#[tactic(auto, unfolding(crate::specs::Lent::lent_cause, links::specs::Graph::lists_cause))]
+fn lent_cause(s: LentLevel, work: usize) -> Result<(), Refusal>
+    ensures { number_of result ≡ lent_cause (slices_of s.entry) work }
 {
-    if over_limits(offsets, neighbors, weights, owners, ranks) {
-        return 3;
+    if over_limits(s) {
+        return Err(Refusal::LimitPassed);
     }
-    if lists_cause(offsets, neighbors) != 0 {
-        return 4;
+    lists_cause(s.offsets, s.neighbors)?;
+    if misfits(s, work) {
+        return Err(Refusal::SliceTooShort);
     }
-    if misfits(offsets, neighbors, weights, owners, ranks, work) {
-        return 5;
+    if stray_owner(s.owners, s.ranks) {
+        return Err(Refusal::RankOutOfRange);
     }
-    if stray_owner(owners, ranks) {
-        return 12;
-    }
-    0
+    Ok(())
 }
 
 // Each list into its part of l.
-fn lay_level(
-    work: &mut [u32],
-    l: HierarchyLevel,
-    offsets: &[u32],
-    neighbors: &[u32],
-    weights: &[u32],
-    owners: &[u32],
-)
-    requires { LevelFits work.old l offsets.now neighbors.now weights.now owners.now }
-    ensures { LevelLaid work.old work.new l offsets.now neighbors.now weights.now owners.now }
+fn lay_level(work: &mut [u32], l: HierarchyLevel, s: LentLevel)
+    requires { LevelFits work.old l s.offsets.now s.neighbors.now s.weights.now s.owners.now }
+    ensures { LevelLaid work.old work.new l s.entry.offsets.now s.entry.neighbors.now s.entry.weights.now s.entry.owners.now }
 {
     let n = l.vertices;
-    let weights_at = l.weights;
-    let weights_end = weights_at + n;
-    let owners_at = l.owners;
-    let owners_end = owners_at + n;
-    copy_part(work, l.offsets, l.offsets + (n + 1), offsets);
-    copy_part(work, l.neighbors, l.neighbors + l.entries, neighbors);
-    copy_part(work, weights_at, weights_end, weights);
-    copy_part(work, owners_at, owners_end, owners);
+    copy_part(work, l.offsets, l.offsets + (n + 1), s.offsets);
+    copy_part(work, l.neighbors, l.neighbors + l.entries, s.neighbors);
+    copy_part(work, l.weights, l.weights + n, s.weights);
+    copy_part(work, l.owners, l.owners + n, s.owners);
 }
 
-// 0 and the level is laid; or the first of 3, 4, 5, 12, and nothing is written.
-pub(crate) fn enter(
-    offsets: &[u32],
-    neighbors: &[u32],
-    weights: &[u32],
-    owners: &[u32],
-    ranks: u32,
-    work: &mut [u32],
-) -> u32
-    ensures { Entered (lent offsets.now neighbors.now weights.now owners.now ranks) work.old work.new result }
+// The level is laid at its place; or the first of 3, 4, 5, 12, and nothing is written.
+pub(crate) fn enter(s: LentLevel, work: &mut [u32]) -> Result<Place, Refusal>
+    ensures entered { Entered (slices_of s.entry) work.old work.new (number_of result) }
+    ensures place { IfOk result (λ p. p ≡ place_of (slices_of s.entry)) }
 {
-    let cause = lent_cause(offsets, neighbors, weights, owners, ranks, work.len());
-    if cause != 0 {
-        return cause;
-    }
-    let p = place_of(offsets, neighbors, ranks);
-    lay_level(work, p.level, offsets, neighbors, weights, owners);
-    0
+    lent_cause(s, work.len())?;
+    let place = place_of(s);
+    lay_level(work, place.level, s);
+    Ok(place)
 }

@@ -10,11 +10,11 @@ mod lent;
 ghost use Rattle.bridge_stages.specs.Lent.{lent};
 ghost use Rattle.bridge_stages.specs.Stages.{CoarsenedHere, SeededHere, GrownHere, MovedHere, SwappedHere};
 
-use crate::lent::{enter, place_of};
-use links::{bad_list_length, index, wide};
+use crate::lent::{LentLevel, enter};
+use links::{Refusal, bad_list_length, number_of};
 use stages::{
-    Coarsened, Grown, Limits, Refined, Swapping, coarsen_once_cached, farthest_seeds,
-    refine_by_cut, refine_fine_pair_swaps, weighted_multisource_partition,
+    Limits, Swapping, coarsen_once_cached, farthest_seeds, refine_by_cut, refine_fine_pair_swaps,
+    weighted_multisource_partition,
 };
 
 // Rule 3: the groups, the entries of their lists, the pairs and the singletons are written, or zeros where there are no fewer groups.
@@ -31,26 +31,19 @@ pub extern "C" fn bridge_coarsen(
     ensures { CoarsenedHere (lent offsets.now neighbors.now weights.now owners.now ranks) work.old work.new counts.new result }
 {
     *counts = [0; 4];
-    let cause = enter(offsets, neighbors, weights, owners, ranks, work);
-    if cause != 0 {
-        return cause;
-    }
-    let p = place_of(offsets, neighbors, ranks);
-    let step = coarsen_once_cached(work, p.level, p.next, p.scratch);
-    let Coarsened::Smaller {
-        groups,
-        entries,
-        pairs,
-        singletons,
-    } = step
-    else {
+    let level = LentLevel::new(offsets, neighbors, weights, owners, ranks);
+    let entered = enter(level, work);
+    let Ok(p) = entered else {
+        return number_of(entered);
+    };
+    let Some(step) = coarsen_once_cached(work, p.level, p.next, p.scratch) else {
         return 0;
     };
     *counts = [
-        groups as u64,
-        entries as u64,
-        pairs as u64,
-        singletons as u64,
+        step.groups as u64,
+        step.entries as u64,
+        step.pairs as u64,
+        step.singletons as u64,
     ];
     0
 }
@@ -67,15 +60,15 @@ pub extern "C" fn bridge_seeds(
 ) -> u32
     ensures { SeededHere (lent offsets.now neighbors.now weights.now owners.now ranks) work.old work.new result }
 {
-    let cause = enter(offsets, neighbors, weights, owners, ranks, work);
-    if cause != 0 {
-        return cause;
+    let level = LentLevel::new(offsets, neighbors, weights, owners, ranks);
+    let entered = enter(level, work);
+    let Ok(p) = entered else {
+        return number_of(entered);
+    };
+    if p.level.vertices < ranks as usize {
+        return Refusal::FewerGroupsThanRanks.number();
     }
-    let p = place_of(offsets, neighbors, ranks);
-    if p.level.vertices < index(ranks) {
-        return 7;
-    }
-    farthest_seeds(work, p.level, p.scratch, index(ranks));
+    farthest_seeds(work, p.level, p.scratch, ranks as usize);
     0
 }
 
@@ -94,14 +87,14 @@ pub extern "C" fn bridge_growth(
     ensures { GrownHere (lent offsets.now neighbors.now weights.now owners.now ranks) cap work.old work.new restarts.new result }
 {
     *restarts = 0;
-    let cause = enter(offsets, neighbors, weights, owners, ranks, work);
-    if cause != 0 {
-        return cause;
-    }
-    let p = place_of(offsets, neighbors, ranks);
-    let grown = weighted_multisource_partition(work, p.level, p.scratch, index(ranks), cap);
-    let Grown::Owned(n) = grown else {
-        return grown.number();
+    let level = LentLevel::new(offsets, neighbors, weights, owners, ranks);
+    let entered = enter(level, work);
+    let Ok(p) = entered else {
+        return number_of(entered);
+    };
+    let grown = weighted_multisource_partition(work, p.level, p.scratch, ranks as usize, cap);
+    let Ok(n) = grown else {
+        return number_of(grown);
     };
     *restarts = n;
     0
@@ -124,19 +117,19 @@ pub extern "C" fn bridge_moves(
     ensures { MovedHere (lent offsets.now neighbors.now weights.now owners.now ranks) floor cap passes work.old work.new moves.new result }
 {
     *moves = 0;
-    let cause = enter(offsets, neighbors, weights, owners, ranks, work);
-    if cause != 0 {
-        return cause;
-    }
-    let p = place_of(offsets, neighbors, ranks);
+    let level = LentLevel::new(offsets, neighbors, weights, owners, ranks);
+    let entered = enter(level, work);
+    let Ok(p) = entered else {
+        return number_of(entered);
+    };
     let limits = Limits {
-        ranks: index(ranks),
+        ranks: ranks as usize,
         floor,
         cap,
     };
     let refined = refine_by_cut(work, p.level, p.scratch, limits, passes);
-    let Refined::Moved(n) = refined else {
-        return refined.number();
+    let Ok(n) = refined else {
+        return number_of(refined);
     };
     *moves = n;
     0
@@ -160,21 +153,21 @@ pub extern "C" fn bridge_swaps(
     ensures { SwappedHere (lent offsets.now neighbors.now weights.now owners.now ranks) floor cap passes list_length work.old work.new swaps.new result }
 {
     *swaps = 0;
-    if bad_list_length(wide(list_length)) {
-        return 17;
+    if bad_list_length(u64::from(list_length)) {
+        return Refusal::InvalidSwaps.number();
     }
-    let cause = enter(offsets, neighbors, weights, owners, ranks, work);
-    if cause != 0 {
-        return cause;
-    }
-    let p = place_of(offsets, neighbors, ranks);
+    let level = LentLevel::new(offsets, neighbors, weights, owners, ranks);
+    let entered = enter(level, work);
+    let Ok(p) = entered else {
+        return number_of(entered);
+    };
     let limits = Limits {
-        ranks: index(ranks),
+        ranks: ranks as usize,
         floor,
         cap,
     };
     let swapping = Swapping {
-        list_length: index(list_length),
+        list_length: list_length as usize,
         passes,
     };
     *swaps = refine_fine_pair_swaps(work, p.level, p.scratch, p.lists, limits, swapping);

@@ -1,13 +1,17 @@
 -- The order by the code's keys, the table of names as the renaming, and the answer. Assumes nothing.
 use Prim.Native.Nat.{ℕ, ◌<◌, ◌≤◌}
-use mathlib.Core.Path.{◌≡◌, sym, ap, ◌∙◌, subst}
+use mathlib.Core.Path.{◌≡◌, refl, sym, ap, ◌∙◌, subst}
 use mathlib.Core.Bool.{false, ◌&&◌, cond}
 use mathlib.Core.List.{List}
-use mathlib.Core.Logic.{◌≢◌, ◌⊎◌, ⊎_elim}
 use native.Mathlib.Omega.{arith}
 use lib.ListN.{replicate}
 use lib.Dec.{ltb}
 use borrow.Author.Tests.{eq-eqb, ne_eqb, lt-ltb, ltb-false}
+use Rattle.std.specs.Prelude.{Option, Some, None, Result, Ok, Err}
+use Rattle.std.specs.Result.{IsErrAnd}
+use Rattle.links.specs.Refusals.{refusal_number}
+use Rattle.links.specs.declared.refusal.Refusal.{Refusal}
+use Rattle.links.proofs.RefusalLaws.{refusal-some}
 use Rattle.links.specs.Lists.{at, All, elem}
 use Rattle.links.specs.Loads.{saturating}
 use Rattle.links.specs.Parts.{table}
@@ -18,11 +22,11 @@ use Rattle.links.proofs.ListTestLaws.{site-passed}
 use Rattle.links.proofs.OwnerLaws.{assigned}
 use Rattle.links.proofs.PartLaws.{get_or-table, table-ext, table-zero}
 use Rattle.compare.specs.declared.order.Order.{Order}
-use Rattle.compare.specs.declared.order.Order.TheVariants.{Same, First, Second, Refused}
+use Rattle.compare.specs.declared.order.Order.TheVariants.{Same}
 use Rattle.compare.specs.declared.division.Comparison.{Comparison}
-use Rattle.compare.specs.Order.{renumbered, lesser_first, by_numbers, order_of, is_same, renamed, renaming_of}
+use Rattle.compare.specs.Order.{renumbered, lesser_first, by_numbers, order_of, is_same, told_same, renamed, renaming_of}
 use Rattle.compare.specs.Ordered.{Renames}
-use Rattle.compare.specs.Comparison.{comparison_cause, order_number, order_for, Compared}
+use Rattle.compare.specs.Comparison.{comparison_cause, order_for, Compared}
 use Rattle.compare.proofs.CauseLaws.{passed}
 use Rattle.compare.proofs.OrderLaws.{lesser-twice, then-stays, ordered}
 use Rattle.compare.proofs.RenamedLaws.{renamed-none}
@@ -50,21 +54,21 @@ module _ (offsets neighbors first second : List ℕ) (p : OwnedLists offsets nei
 
 -- ---- the table of names as the renaming
 
-pub renaming-none : (k : ℕ) (first second : List ℕ) (o : Order) → is_same o ≡ false → replicate 256 0 ≡ renaming_of k first second o
+pub renaming-none : (k : ℕ) (first second : List ℕ) (o : Option Order) → told_same o ≡ false → replicate 256 0 ≡ renaming_of k first second o
 unfolding renaming_of
-renaming-none k first second o d = sym (table-zero (λ i. cond (is_same o && ltb i k) (renamed first second i) 0) 256 (λ i h. rw d))
+renaming-none k first second o d = sym (table-zero (λ i. cond (told_same o && ltb i k) (renamed first second i) 0) 256 (λ i h. rw d))
 
 -- from k on nothing is owned
-pub renaming-some : (k : ℕ) (first second : List ℕ) → All (λ o. o < k) first → table (renamed first second) 256 ≡ renaming_of k first second Same
+pub renaming-some : (k : ℕ) (first second : List ℕ) → All (λ o. o < k) first → table (renamed first second) 256 ≡ renaming_of k first second (Some Same)
 unfolding renaming_of
-renaming-some k first second below = table-ext (renamed first second) (λ i. cond (is_same Same && ltb i k) (renamed first second i) 0) 256
+renaming-some k first second below = table-ext (renamed first second) (λ i. cond (told_same (Some Same) && ltb i k) (renamed first second i) 0) 256
     (λ i h. split (ltb i k)
     (λ p. rw p)
     (λ p. rw p (renamed-none first second i (split (elem i first) (λ m. absurd (omega (arith, ltb-false i k p, all_in (λ o. o < k) first i below m))) (λ m. m)))))
 
-renaming-at : (k : ℕ) (first second : List ℕ) → k ≤ 256 → (i : ℕ) → i < k → at (renaming_of k first second Same) i ≡ renamed first second i
+renaming-at : (k : ℕ) (first second : List ℕ) → k ≤ 256 → (i : ℕ) → i < k → at (renaming_of k first second (Some Same)) i ≡ renamed first second i
 unfolding renaming_of
-renaming-at k first second few i h = get_or-table (λ i. cond (is_same Same && ltb i k) (renamed first second i) 0) 256 i (omega arith) ∙ rw (lt-ltb i k h)
+renaming-at k first second few i h = get_or-table (λ i. cond (told_same (Some Same) && ltb i k) (renamed first second i) 0) 256 i (omega arith) ∙ rw (lt-ltb i k h)
 
 -- the 256 numbers are themselves the renaming
 numbers-rename
@@ -72,9 +76,9 @@ numbers-rename
     → k ≤ 256
     → All (λ o. o < k) first
     → Renames k (renamed first second) first second
-    → Renames k (at (renaming_of k first second Same)) first second
+    → Renames k (at (renaming_of k first second (Some Same))) first second
 numbers-rename k first second few below r =
-    let names = renaming_of k first second Same in
+    let names = renaming_of k first second (Some Same) in
     let e : (i : ℕ) → i < k → at names i ≡ renamed first second i = renaming-at k first second few in
     record {
       renaming =
@@ -87,51 +91,48 @@ numbers-rename k first second few below r =
 
 -- ---- the answer
 
--- an order is no refusal
-no-refusal : (o : Order) → (o ≡ Same) ⊎ ((o ≡ First) ⊎ (o ≡ Second)) → order_number o ≡ 0
-no-refusal o t = ⊎_elim (λ e. rw e) (λ u. ⊎_elim (λ e. rw e) (λ e. rw e) u) t
-
-module _ (offsets neighbors : List ℕ) (k : ℕ) (first second : List ℕ) (r : Comparison) where
+module _ (offsets neighbors : List ℕ) (k : ℕ) (first second : List ℕ) where
   pub compared-refused
-      : (number : ℕ)
-      → number ≡ comparison_cause offsets neighbors k first second
-      → number ≢ 0
-      → r.order ≡ Refused number
-      → r.renaming ≡ replicate 256 0
+      : (r : Result Comparison Refusal) (refusal : Refusal)
+      → IsErrAnd r (λ y. y ≡ refusal)
+      → refusal_number refusal ≡ comparison_cause offsets neighbors k first second
       → Compared offsets neighbors k first second r
   unfolding order_for
-  compared-refused number e n o z =
-      let some : order_number r.order ≢ 0 = λ q. n (sym (ap order_number o) ∙ q) in
+  compared-refused (Ok x) refusal is e = absurd is
+  compared-refused (Err y) refusal is e =
+      let none = ne_eqb (comparison_cause offsets neighbors k first second) 0 (λ q. refusal-some refusal (e ∙ q)) in
       record {
-        answer = o ∙ rw (e, ne_eqb (comparison_cause offsets neighbors k first second) 0 (λ q. n (e ∙ q)));
-        number = ap order_number o ∙ e;
-        renaming = z ∙ renaming-none k first second r.order (rw o);
+        answer = rw none;
+        number = ap refusal_number is ∙ e;
+        renaming = renaming-none k first second None refl;
         renames = λ q. let z : ◌≡◌ {A = ℕ} 0 1 = cc in absurd (omega arith);
-        only = λ q. absurd (some q);
-        ordered = λ q. absurd (some q);
+        only = λ q. absurd (refusal-some y q);
+        ordered = λ q. absurd (refusal-some y q);
       }
 
   pub compared-told
       : comparison_cause offsets neighbors k first second ≡ 0
-      → r.order ≡ order_of (rows_of offsets neighbors) first second
-      → r.renaming ≡ renaming_of k first second r.order
-      → Compared offsets neighbors k first second r
+      → (c : Comparison)
+      → c.order ≡ order_of (rows_of offsets neighbors) first second
+      → c.renaming ≡ renaming_of k first second (Some c.order)
+      → Compared offsets neighbors k first second (Ok c)
   unfolding order_for
-  compared-told p o z =
+  compared-told p c o z =
       let rows = rows_of offsets neighbors in
       let site = passed offsets neighbors k first second p in
       let own = assigned k first site.one.own in
       let law = ordered rows k (site-passed offsets neighbors site.site).0.sound in
-      let names : r.order ≡ Same → r.renaming ≡ renaming_of k first second Same = λ q. z ∙ ap (renaming_of k first second) q in
+      let names : c.order ≡ Same → c.renaming ≡ renaming_of k first second (Some Same) = λ q. z ∙ ap (λ (x : Order). renaming_of k first second (Some x)) q in
       record {
-        answer = o ∙ rw (eq-eqb (comparison_cause offsets neighbors k first second) 0 p);
-        number = ap order_number o ∙ no-refusal (order_of rows first second) (law.total first second) ∙ sym p;
+        answer = ap Some o ∙ rw (eq-eqb (comparison_cause offsets neighbors k first second) 0 p);
+        number = sym p;
         renaming = z;
         renames = λ q.
-            subst (λ (xs : List ℕ). Renames k (at xs) first second) (sym (names q))
-            (numbers-rename k first second own.few own.ranked (law.same-renames first second site.one site.other (sym o ∙ q)));
+            let same : c.order ≡ Same = cc in
+            subst (λ (xs : List ℕ). Renames k (at xs) first second) (sym (names same))
+            (numbers-rename k first second own.few own.ranked (law.same-renames first second site.one site.other (sym o ∙ same)));
         only = λ _ f t.
-            let same : r.order ≡ Same = o ∙ law.renames-same first second site.one f t in
-            (same, λ i h. law.renames-once first second site.one f t i h ∙ sym (ap (λ (xs : List ℕ). at xs i) (names same) ∙ renaming-at k first second own.few i h));
+            let same : c.order ≡ Same = o ∙ law.renames-same first second site.one f t in
+            (ap Some same, λ i h. law.renames-once first second site.one f t i h ∙ sym (ap (λ (xs : List ℕ). at xs i) (names same) ∙ renaming-at k first second own.few i h));
         ordered = λ _. law;
       }

@@ -7,7 +7,7 @@ use mathlib.Core.List.{List, [], ◌∷◌, map}
 use native.Mathlib.Omega.{arith}
 use native.Mathlib.Numerals.{add-one}
 use lib.ListN.{length, take, drop, set, replicate, length-append, get_or-replicate, drop_of_length-le}
-use lib.Seq.{take-suc, take_all, length-take-le, drop-cons, drop-length, ext_get_or}
+use lib.Seq.{take-suc, length-take-le, drop-cons, drop-length, ext_get_or}
 use lib.Dec.{eqb}
 use borrow.Author.Tests.{ne_eqb, eqb-true}
 use Rattle.links.specs.Lists.{at, unassigned, All, elem}
@@ -93,9 +93,6 @@ module _ (owners numbers : List ℕ) (count v : ℕ) (n : Numbering owners numbe
         count-is = b ∙ rw (e, more, n.numbers-are, n.count-is) (meet-count met (at owners v) low few);
       }
 
-  pub numbering-done : length owners ≤ v → numbers ≡ table (number_in (appearing owners)) 256
-  numbering-done h = rw (take_all v owners h) at n.numbers-are
-
 -- the owners by such numbers are the renumbered owners
 pub numbered : (owners numbers : List ℕ) → numbers ≡ table (number_in (appearing owners)) 256 → All (λ o. o < 256) owners → map (at numbers) owners ≡ renumbered owners
 unfolding renumbered number_in
@@ -150,6 +147,3 @@ module _ (first second names : List ℕ) (v : ℕ) (n : Naming first second name
         names-are = rw (names-now, e) (table-set (renamed (drop (suc w) first) (drop (suc w) second)) (renamed (drop w first) (drop w second)) 256 (at first w) (at second w)
             (λ i m. rw (drop-cons first w 0 h, drop-cons second w 0 (omega arith))));
       }
-
-  pub naming-done : v ≤ 0 → names ≡ table (renamed first second) 256
-  naming-done h = let z : v ≡ 0 = omega arith in rw z at n.names-are

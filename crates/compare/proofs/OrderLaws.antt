@@ -14,7 +14,7 @@ use Rattle.links.specs.Owners.{from_owners}
 use Rattle.links.proofs.ListLaws.{split, count, none-counts}
 use Rattle.links.proofs.OwnerLaws.{assigned}
 use Rattle.compare.specs.declared.order.Order.{Order}
-use Rattle.compare.specs.declared.order.Order.TheVariants.{Same, First, Second, Refused}
+use Rattle.compare.specs.declared.order.Order.TheVariants.{Same, First, Second}
 use Rattle.compare.specs.Order.{appearing, place_of, renumbered, lesser_first, then_by, by_numbers, order_of, exchange, is_same, renamed}
 use Rattle.compare.specs.Ordered.{Renames, Division, Ordered}
 use Rattle.compare.proofs.RenamedLaws.{renumbered-renamed, cut-renamed, same-renames, renamed_by}
@@ -60,17 +60,10 @@ lesser-twice a b = decided a b
 -- ---- one key after another
 
 -- a key that decides is the answer
-pub decides : (o : Order) → (o ≡ Same → ⊥) → is_same o ≡ false
-decides Same k = absurd (k refl)
-decides First k = refl
-decides Second k = refl
-decides (Refused number) k = refl
-
 pub then-stays : (o later : Order) → is_same o ≡ false → then_by o later ≡ o
 then-stays Same later e = absurd (true≢false e)
 then-stays First later e = refl
 then-stays Second later e = refl
-then-stays (Refused number) later e = refl
 
 abbrev Told : Order → Type 0
 Told o = (o ≡ Same) ⊎ ((o ≡ First) ⊎ (o ≡ Second))
@@ -85,13 +78,11 @@ then_same : (o later : Order) → then_by o later ≡ Same → (o ≡ Same) × (
 then_same Same later e = (refl, e)
 then_same First later e = let z : ◌≡◌ {A = ℕ} 0 1 = cc in absurd (omega arith)
 then_same Second later e = let z : ◌≡◌ {A = ℕ} 0 1 = cc in absurd (omega arith)
-then_same (Refused number) later e = let z : ◌≡◌ {A = ℕ} 0 1 = cc in absurd (omega arith)
 
 then-first : (o later : Order) → then_by o later ≡ First → (o ≡ First) ⊎ ((o ≡ Same) × (later ≡ First))
 then-first Same later e = inr (refl, e)
 then-first First later e = inl refl
 then-first Second later e = let z : ◌≡◌ {A = ℕ} 0 1 = cc in absurd (omega arith)
-then-first (Refused number) later e = let z : ◌≡◌ {A = ℕ} 0 1 = cc in absurd (omega arith)
 
 exchange-lesser : (a b : ℕ) → lesser_first b a ≡ exchange (lesser_first a b)
 exchange-lesser a b = decided a b (λ h p. rw p (greater b a h)) (λ h p. rw p (lesser b a h)) (λ h p. rw p (equal b a (sym h)))
@@ -100,7 +91,6 @@ exchange-then : (o later : Order) → then_by (exchange o) (exchange later) ≡ 
 exchange-then Same later = refl
 exchange-then First later = refl
 exchange-then Second later = refl
-exchange-then (Refused number) later = refl
 
 -- a key that is told before a chain and the keys after it
 module _ (a b c : ℕ) (o o' o'' : Order) (chained : o ≡ First → o' ≡ First → o'' ≡ First) where

@@ -1,11 +1,11 @@
 -- Request P10: the order of two divisions, and the renaming between two that are the same. 02's turbine is a vertex here, its crew a rank.
 -- Assumes nothing.
-use Rattle.std.specs.Prelude.{ℕ, suc, Bool, true, false, ◌&&◌, cond, List, [], ◌∷◌, ◌++◌, map, ltb, eqb}
+use Rattle.std.specs.Prelude.{ℕ, suc, Bool, true, false, ◌&&◌, cond, List, [], ◌∷◌, ◌++◌, map, ltb, eqb, Option, Some, None}
 use Rattle.links.specs.Lists.{elem, foldl}
 use Rattle.links.specs.Parts.{table}
 use Rattle.links.specs.Graph.{links_cut}
 use Rattle.compare.specs.declared.order.Order.{Order}
-use Rattle.compare.specs.declared.order.Order.TheVariants.{Same, First, Second, Refused}
+use Rattle.compare.specs.declared.order.Order.TheVariants.{Same, First, Second}
 
 -- ---- ranks by first appearance
 
@@ -37,7 +37,6 @@ abbrev pub then_by : Order → Order → Order
 then_by Same later = later
 then_by First later = First
 then_by Second later = Second
-then_by (Refused number) later = Refused number
 
 -- which of two lists of one length has the lesser number where they first differ, "from turbine 0 up"
 unfoldable pub by_numbers : List ℕ → List ℕ → Order
@@ -55,13 +54,16 @@ abbrev pub exchange : Order → Order
 exchange Same = Same
 exchange First = Second
 exchange Second = First
-exchange (Refused number) = Refused number
 
 abbrev pub is_same : Order → Bool
 is_same Same = true
 is_same First = false
 is_same Second = false
-is_same (Refused number) = false
+
+-- of a refusal nothing is told
+abbrev pub told_same : Option Order → Bool
+told_same (Some o) = is_same o
+told_same None = false
 
 -- ---- the renaming
 
@@ -72,5 +74,5 @@ renamed (a ∷ first) [] i = 0
 renamed (a ∷ first) (b ∷ second) i = cond (eqb i a) b (renamed first second i)
 
 -- "returned as 256 numbers: place i holds the second division's number for the first's crew i, and 0 stands from k on and everywhere if they differ"
-unfoldable pub renaming_of : ℕ → List ℕ → List ℕ → Order → List ℕ
-renaming_of k first second order = table (λ i. cond (is_same order && ltb i k) (renamed first second i) 0) 256
+unfoldable pub renaming_of : ℕ → List ℕ → List ℕ → Option Order → List ℕ
+renaming_of k first second order = table (λ i. cond (told_same order && ltb i k) (renamed first second i) 0) 256

@@ -2,13 +2,14 @@
 ghost use Rattle.std.specs.Prelude.{◌≡◌, ◌<◌};
 ghost use Rattle.links.specs.Lists.{All};
 ghost use Rattle.links.specs.Graph.{rows_of, OwnedLists};
+ghost use Rattle.links.specs.Refusals.{number_of};
 ghost use Rattle.compare.specs.Order.{order_of};
 ghost use Rattle.compare.specs.Comparison.{comparison_cause, Compared};
 
 use crate::numbers::by_owners;
 use crate::order::{Order, lesser_first};
 use crate::renaming::renaming_of;
-use links::{Assignment, cut_entries, from_owners, site_cause, vertex_count};
+use links::{Refusal, cut_entries, from_owners, site_cause, vertex_count};
 
 // The order, and the renaming if they are the same, else zeros.
 #[derive(Clone, Copy)]
@@ -17,36 +18,24 @@ pub struct Comparison {
     pub renaming: [u32; 256],
 }
 
-// 0, or the first of 3, 4, then of each list 2, 3, 12, 9, then 18.
+// The first of 3, 4, then of each list 2, 3, 12, 9, then 18.
 fn comparison_cause(
     offsets: &[u32],
     neighbors: &[u32],
     ranks: u32,
     first: &[u32],
     second: &[u32],
-) -> u32
-    ensures { result ≡ comparison_cause offsets.now neighbors.now ranks first.now second.now }
+) -> Result<(), Refusal>
+    ensures { number_of result ≡ comparison_cause offsets.now neighbors.now ranks first.now second.now }
 {
-    let cause = site_cause(offsets, neighbors);
-    if cause != 0 {
-        return cause;
-    }
-    let one = from_owners(ranks, first);
-    let Assignment::Valid = one else {
-        return one.number();
-    };
-    let other = from_owners(ranks, second);
-    let Assignment::Valid = other else {
-        return other.number();
-    };
+    site_cause(offsets, neighbors)?;
+    from_owners(ranks, first)?;
+    from_owners(ranks, second)?;
     let n = vertex_count(offsets);
-    if first.len() != n {
-        return 18;
+    if first.len() != n || second.len() != n {
+        return Err(Refusal::OwnersNotOnePerVertex);
     }
-    if second.len() != n {
-        return 18;
-    }
-    0
+    Ok(())
 }
 
 // Fewer cut links first, then by renumbered owners. Each cut link is two entries.
@@ -57,9 +46,9 @@ fn order_of(offsets: &[u32], neighbors: &[u32], first: &[u32], second: &[u32]) -
     let a = cut_entries(offsets, neighbors, first);
     let b = cut_entries(offsets, neighbors, second);
     let order = lesser_first(a, b);
-    let Order::Same = order else {
+    if order != Order::Same {
         return order;
-    };
+    }
     by_owners(first, second)
 }
 
@@ -72,25 +61,15 @@ pub fn compare_divisions(
     ranks: u32,
     first: &[u32],
     second: &[u32],
-) -> Comparison
+) -> Result<Comparison, Refusal>
     ensures { Compared offsets.now neighbors.now ranks first.now second.now result }
 {
-    let cause = comparison_cause(offsets, neighbors, ranks, first, second);
-    if cause != 0 {
-        return Comparison {
-            order: Order::Refused(cause),
-            renaming: [0; 256],
-        };
-    }
+    comparison_cause(offsets, neighbors, ranks, first, second)?;
     let order = order_of(offsets, neighbors, first, second);
-    let Order::Same = order else {
-        return Comparison {
-            order,
-            renaming: [0; 256],
-        };
+    let renaming = if order == Order::Same {
+        renaming_of(first, second)
+    } else {
+        [0; 256]
     };
-    Comparison {
-        order,
-        renaming: renaming_of(first, second),
-    }
+    Ok(Comparison { order, renaming })
 }

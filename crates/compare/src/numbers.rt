@@ -6,9 +6,9 @@ ghost use Rattle.compare.specs.Order.{appearing, renumbered, by_numbers};
 ghost use Rattle.compare.specs.OrderCode.{number_in, is_new};
 
 use crate::order::{Order, lesser_first};
-use links::{index, wide};
 
-const UNASSIGNED: u32 = 0xffff_ffff;
+// The number of a rank that has none.
+const UNASSIGNED: u32 = u32::MAX;
 
 // Gives a rank without a number the next one; how many have one then.
 fn meet(numbers: &mut [u32; 256], rank: usize, count: u32) -> u32
@@ -30,10 +30,8 @@ fn numbers_of(owners: &[u32]) -> [u32; 256]
 {
     let mut numbers = [UNASSIGNED; 256];
     let mut count: u32 = 0;
-    let mut v = 0;
-    while v < owners.len() {
-        count = meet(&mut numbers, index(owners[v]), count);
-        v += 1;
+    for owner in owners {
+        count = meet(&mut numbers, *owner as usize, count);
     }
     numbers
 }
@@ -43,7 +41,7 @@ fn number_of(numbers: &[u32; 256], rank: u32) -> u64
     requires { rank < 256 }
     ensures { result ≡ at numbers.now rank }
 {
-    wide(numbers[index(rank)])
+    u64::from(numbers[rank as usize])
 }
 
 // Which owner list comes first by its ranks' numbers.
@@ -51,13 +49,11 @@ fn by_numbers(first: &[u32], second: &[u32], one: &[u32; 256], other: &[u32; 256
     requires { All (λ o. o < 256) first.now × All (λ o. o < 256) second.now × (length first.now ≡ length second.now) }
     ensures { result ≡ by_numbers (map (at one.now) first.now) (map (at other.now) second.now) }
 {
-    let mut v = 0;
-    while v < first.len() {
-        let order = lesser_first(number_of(one, first[v]), number_of(other, second[v]));
-        let Order::Same = order else {
+    for (v, rank) in first.iter().enumerate() {
+        let order = lesser_first(number_of(one, *rank), number_of(other, second[v]));
+        if order != Order::Same {
             return order;
-        };
-        v += 1;
+        }
     }
     Order::Same
 }

@@ -4,8 +4,6 @@ ghost use Rattle.links.specs.Lists.{All};
 ghost use Rattle.links.specs.Parts.{table};
 ghost use Rattle.compare.specs.Order.{renamed};
 
-use links::index;
-
 // For each rank of the first list, the second's for the first vertex that it owns; 0 for a rank that owns none. From the last vertex down, so that the
 // first is written last.
 pub(crate) fn renaming_of(first: &[u32], second: &[u32]) -> [u32; 256]
@@ -13,11 +11,8 @@ pub(crate) fn renaming_of(first: &[u32], second: &[u32]) -> [u32; 256]
     ensures { result ≡ table (renamed first.now second.now) 256 }
 {
     let mut names = [0u32; 256];
-    let mut v = first.len();
-    while v > 0 {
-        v -= 1;
-        let rank = index(first[v]);
-        names[rank] = second[v];
+    for v in (0..first.len()).rev() {
+        names[first[v] as usize] = second[v];
     }
     names
 }

@@ -10,7 +10,7 @@ use native.Mathlib.Nat.{not-suc-le-zero, le_of_suc-le-suc}
 use native.Mathlib.Numerals.{add-one}
 use native.Mathlib.Omega.{arith}
 use lib.Dec.{eqb}
-use lib.ListN.{length, drop, drop_of_length-le}
+use lib.ListN.{length, drop}
 use borrow.Author.Tests.{ne_eqb}
 use Rattle.links.specs.Lists.{at, unassigned, filter, range, best_from}
 use Rattle.links.specs.Best.{held, step_best}
@@ -59,9 +59,6 @@ module _ (better : ℕ → ℕ → Bool) (ok : ℕ → Bool) where
   -- its end
   pub all-met : (k i : ℕ) (c : Option ℕ) → k ≤ i → left better ok k i c ≡ c
   all-met k i c h = let z : k - i ≡ 0 = omega arith in rw z
-
-  pub all-met-of : (xs : List ℕ) (i : ℕ) (c : Option ℕ) → length xs ≤ i → left_of better ok xs i c ≡ c
-  all-met-of xs i c h = rw (drop_of_length-le xs h)
 
 -- the code's step is the definition's
 pub held-step : (better : ℕ → ℕ → Bool) (ok : ℕ → Bool) (b i : ℕ) → i < unassigned → held (step_best better ok b i) ≡ step better ok (held b) i

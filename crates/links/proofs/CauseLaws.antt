@@ -11,3 +11,7 @@ cause-holds false number r e f = absurd (f e)
 pub cause-fails : (b : Bool) (number r : ℕ) → r ≡ cond b (suc number) 0 → r ≡ 0 → b ≡ false
 cause-fails true number r e f = absurd (omega arith)
 cause-fails false number r e f = refl
+
+pub cause-number : (b : Bool) (number r : ℕ) → r ≡ cond b (suc number) 0 → (r ≡ 0 → ⊥) → r ≡ suc number
+cause-number true number r e f = e
+cause-number false number r e f = absurd (f e)

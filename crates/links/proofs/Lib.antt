@@ -13,3 +13,5 @@ pub mod RangeLaws
 pub mod PackLaws
 pub mod WorkloadLaws
 pub mod OptionLaws
+pub mod ChainLaws
+pub mod RefusalLaws

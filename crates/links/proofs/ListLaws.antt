@@ -10,7 +10,7 @@ use native.Mathlib.Omega.{arith}
 use lib.ListN.{length, get_or, set, take, drop, replicate}
 use lib.Seq.{take-suc, drop-cons, split_at}
 use lib.Dec.{eqb, ltb, leb}
-use borrow.Author.Tests.{eq-eqb, ne_eqb, eqb-true, eqb-false, lt-ltb, le-ltb, ltb-true, ltb-false, lt-leb, le-leb, leb-true}
+use borrow.Author.Tests.{eq-eqb, ne_eqb, eqb-true, eqb-false, lt-ltb, le-ltb, ltb-true, ltb-false, leb-true}
 use Rattle.links.specs.Lists.{at, All, above, greatest, between, filter, any, all, foldl, best, best_from, insert, sort_by, range, sum, concat_map, elem}
 
 -- by cases on a test, with the equation at hand
@@ -58,12 +58,6 @@ or-false true = refl
 or-false false = refl
 
 -- ---- from least to most
-
-pub between-under : (least most x : ℕ) → x < least → false ≡ between least most x
-between-under least most x h = rw (lt-leb least x h)
-
-pub between-from : (least most x : ℕ) → least ≤ x → leb x most ≡ between least most x
-between-from least most x h = rw (le-leb least x h)
 
 pub between-least : (least most x : ℕ) → between least most x ≡ true → least ≤ x
 between-least least most x e = leb-true least x (and_l (leb least x) (leb x most) e)

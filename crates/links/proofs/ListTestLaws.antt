@@ -10,8 +10,10 @@ use native.Mathlib.Numerals.{add-one}
 use lib.Dec.{leb, ltb, eqb}
 use lib.ListN.{length, drop, drop_of_length-le}
 use lib.Seq.{drop-cons}
-use borrow.Author.Tests.{leb-true, le-leb, lt-leb, ltb-true, ltb-false, lt-ltb, le-ltb, ne_eqb}
+use borrow.Author.Tests.{leb-true, le-leb, lt-leb, ltb-true, ltb-false, lt-ltb, ne_eqb}
+use Rattle.std.specs.Prelude.{Ok, Err}
 use Rattle.links.specs.Lists.{at, all, range, elem}
+use Rattle.links.specs.declared.refusal.Refusal.TheVariants.{InvalidLists}
 use Rattle.links.specs.Graph.{row, vertex_count, neighbors_of, rows_of, strictly_rising, never_falling, good_row, bad_offsets, bad_lists, lists_cause, site_cause, SoundLists, ListsTested}
 use Rattle.links.specs.ListTest.{valid_row, valid_rows, mirrored_row, mirrored_rows, Rising}
 use Rattle.links.proofs.CauseLaws.{cause-holds, cause-fails}
@@ -30,10 +32,6 @@ all-next p xs i x h e q = sym (rw (add-one, drop-cons xs i 0 h, e, q))
 -- it fails at i
 pub all-fails : (p : ℕ → Bool) (xs : List ℕ) (i x : ℕ) → i < length xs → at xs i ≡ x → p x ≡ false → all p (drop i xs) ≡ false
 all-fails p xs i x h e q = rw (drop-cons xs i 0 h, e, q)
-
--- it is at the end
-pub all_end : (p : ℕ → Bool) (xs : List ℕ) (i : ℕ) → length xs ≤ i → all p (drop i xs) ≡ true
-all_end p xs i h = rw (drop_of_length-le xs h)
 
 -- the list of the numbers below n has i at place i
 pub at-range : (n i : ℕ) → i < n → at (range 0 n) i ≡ i
@@ -65,10 +63,6 @@ module _ (f : ℕ → ℕ) where
   -- it is too low there
   pub apart-fails : (b : ℕ) (xs : List ℕ) (i : ℕ) → i < length xs → at xs i < b → apart_from f b (drop i xs) ≡ false
   apart-fails b xs i h k = rw (all-fails (leb b) xs i (at xs i) h refl (lt-leb b (at xs i) k))
-
-  -- it is at the end
-  pub apart-end : (b : ℕ) (xs : List ℕ) (i : ℕ) → length xs ≤ i → apart_from f b (drop i xs) ≡ true
-  apart-end b xs i h = rw (drop_of_length-le xs h)
 
 -- from the start
 apart-start : (f : ℕ → ℕ) (xs : List ℕ) → apart_from f 0 xs ≡ apart f xs
@@ -179,20 +173,15 @@ module _ (o l : List ℕ) where
     unfolding lists_cause
     lists-fine f = cause-fails (bad_lists o l) 3 r e f
 
-  pub tested : (b : Bool) → bad_lists o l ≡ b → ListsTested o l (cond b 4 0)
+  pub refused : bad_lists o l ≡ true → ListsTested o l (Err InvalidLists)
   unfolding lists_cause
-  tested true e = record { cause = rw e; sound = λ z. absurd (omega arith) }
-  tested false e = record { cause = rw e; sound = λ z. sound-lists o l e }
+  refused e = record { cause = rw e; sound = λ z. absurd (omega arith) }
+
+  pub passed : bad_lists o l ≡ false → ListsTested o l (Ok tt)
+  unfolding lists_cause
+  passed e = record { cause = rw e; sound = λ z. sound-lists o l e }
 
   -- ---- the tests of the site
-
-  pub site-large : (ltb 16384 (vertex_count o) || ltb 131072 (length l)) ≡ true → 3 ≡ site_cause o l
-  unfolding site_cause
-  site-large e = rw e
-
-  pub site-lists : vertex_count o ≤ 16384 → length l ≤ 131072 → lists_cause o l ≡ site_cause o l
-  unfolding site_cause
-  site-lists n m = rw (le-ltb 16384 (vertex_count o) n, le-ltb 131072 (length l) m)
 
   -- what a site is that passes
   pub site-passed : site_cause o l ≡ 0 → SoundLists o l × (vertex_count o ≤ 16384) × (length l ≤ 131072)

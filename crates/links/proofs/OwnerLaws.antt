@@ -1,29 +1,31 @@
 -- Laws of owner lists: one owner more counted, met or marked; what the marks are worth; what the ranks own together. Assumes nothing.
-use Prim.Native.Nat.{ℕ, ◌+◌, ◌-◌, ◌≤◌, ◌<◌}
+use Prim.Native.Nat.{ℕ, zero, suc, ◌+◌, ◌-◌, ◌≤◌, ◌<◌}
 use mathlib.Core.Path.{◌≡◌, refl, sym, ap, ◌∙◌}
 use mathlib.Core.Bool.{Bool, true, false, ◌||◌, cond}
 use mathlib.Core.List.{List, [], ◌∷◌}
 use native.Mathlib.Omega.{arith}
 use native.Mathlib.Numerals.{add-one}
-use lib.ListN.{length, take, drop, set, replicate, length-set, length-take, length-replicate, get_or-replicate, get_or-eq_default}
-use lib.Seq.{take-suc, take-length, take-add, get_or-set_same, get_or-set_other}
+use lib.ListN.{length, take, drop, set, replicate, length-take, get_or-eq_default}
+use lib.Seq.{take_all, take-suc, take-length, take-add}
 use lib.Dec.{leb, ltb, eqb}
-use borrow.Author.Tests.{eq-eqb, ne_eqb, ltb-true, ltb-false, leb-false, eqb-true, eqb-false}
-use Rattle.links.specs.Lists.{at, unassigned, any, elem, range, All}
+use borrow.Author.Tests.{eq-eqb, ne_eqb, ltb-true, ltb-false, leb-true, leb-false, eqb-false}
+use Rattle.links.specs.Lists.{at, unassigned, any, range, All}
 use Rattle.links.specs.Parts.{table}
 use Rattle.links.specs.Graph.{owned}
-use Rattle.links.specs.declared.owners.Assignment.{Assignment}
-use Rattle.links.specs.declared.owners.Assignment.TheVariants.{Valid, Refused}
-use Rattle.links.specs.Owners.{bad_ranks, too_many, counts_cause, stray_owner, empty_rank, from_owners, assignment_number, AssignmentTold, Marked}
-use Rattle.links.proofs.ListLaws.{split, or_l, or_r, or-true, or-false, tally, count, count-cons, count-length, count-append, count-all, count-apart, all-to, to-all, any-ext, any_none, total, counted-below, counted, count-drop, none-counts, all-get_or, elem-take}
-use Rattle.links.proofs.RangeLaws.{none_passes}
+use Rattle.links.specs.Owners.{bad_ranks, too_many, counts_cause, stray_owner, empty_rank, from_owners}
+use Rattle.links.proofs.ListLaws.{split, or_l, or_r, or-true, tally, count, count-cons, count-length, count-append, count-all, count-apart, all-to, to-all, any_none, total, counted-below, counted, all-get_or}
+use Rattle.links.proofs.RangeLaws.{none_passes, range_snoc}
+use Rattle.links.proofs.ChainLaws.{any-chain}
+use Rattle.std.specs.List.{list_any}
+use Rattle.std.proofs.lemmas.List.{take-append-le}
+use Rattle.std.proofs.lemmas.List.Folds.{list_any-append}
+use Rattle.std.specs.Prelude.{Result, Ok, Err}
+use Rattle.links.specs.Refusals.{number_of}
+use Rattle.links.specs.declared.refusal.Refusal.{Refusal}
+use Rattle.links.proofs.RefusalLaws.{refusal-some}
 use Rattle.links.proofs.PartLaws.{length-table, get_or-table, table-zero, table-add}
 
 module _ (owners : List ℕ) (i : ℕ) (h : i < length owners) where
-  pub owned-drop : (r : ℕ) → owned (drop i owners) r ≡ tally (eqb r (at owners i)) + owned (drop (i + 1) owners) r
-  unfolding owned
-  owned-drop r = count-drop owners i 0 h (eqb r)
-
   pub owned-take : (r : ℕ) → owned (take (i + 1) owners) r ≡ owned (take i owners) r + tally (eqb r (at owners i))
   unfolding owned
   owned-take r = rw (add-one, take-suc owners i 0 h) (count-append (eqb r) (take i owners) (at owners i ∷ []) ∙ omega (arith, count-cons (eqb r) (at owners i) []))
@@ -33,33 +35,26 @@ pub all-below : (k : ℕ) (owners : List ℕ) → stray_owner k owners ≡ false
 unfolding stray_owner
 all-below k owners e i h = leb-false k (at owners i) (all-get_or owners i 0 h (λ x. leb k x ≡ false) (any_none (leb k) owners e))
 
-pub marked-none : (marks : List ℕ) → Marked [] marks marks
-marked-none marks = record { same_length = refl; entries = λ r h. refl }
+-- ---- the first k of a table of n
 
-pub marked_more : (marks' marks owners : List ℕ) (i : ℕ) → i < length owners → at owners i < length marks → Marked (take i owners) marks' marks
-    → Marked (take (i + 1) owners) (set marks' (at owners i) 1) marks
-marked_more marks' marks owners i h b m =
-    record {
-      same_length = length-set marks' (at owners i) 1 ∙ m.same_length;
-      entries = λ r l. rw (elem-take r owners i h) (split (eqb r (at owners i))
-          (λ p. let e = eqb-true r (at owners i) p in let g = m.same_length in
-          simp (p, or-true) (rw e (get_or-set_same marks' (at owners i) 1 0 (omega arith))))
-          (λ p. rw (p, get_or-set_other marks' (at owners i) r 1 0 (eqb-false r (at owners i) p)) (simp or-false (m.entries r l))));
-    }
+take-table : (f : ℕ → ℕ) (n k : ℕ) → k ≤ n → take k (table f n) ≡ table f k
+take-table f zero k h = let e : k ≡ 0 = omega arith in rw e
+take-table f (suc n) k h = split (leb k n)
+    (λ p. let l : k ≤ n = leb-true k n p in take-append-le k (table f n) (f n ∷ []) (rw (length-table f n) l) ∙ take-table f n k l)
+    (λ p. let e : k ≡ suc n = omega (arith, leb-false k n p) in rw e (take_all (suc n) (table f (suc n)) (rw (length-table f (suc n)) (omega arith))))
 
--- a rank is without a mark exactly when it owns nothing
-pub unmarked : (owners marks : List ℕ) (n : ℕ) → Marked owners marks (replicate n 0) → (r : ℕ) → r < n → eqb (at marks r) 0 ≡ eqb (owned owners r) 0
-unfolding owned
-unmarked owners marks n m r h =
-    let l : r < length {A = ℕ} (replicate n 0) = simp length-replicate h in
-    rw (m.entries r l, get_or-replicate, none-counts)
-    (split (elem r owners) (λ p. rw p) (λ p. rw p))
+any-table : (p : ℕ → Bool) (f : ℕ → ℕ) (k : ℕ) → list_any p (table f k) ≡ list_any (λ r. p (f r)) (range 0 k)
+any-table p f zero = refl
+any-table p f (suc k) =
+    list_any-append p (table f k) (f k ∷ [])
+    ∙ ap (λ b. b || (p (f k) || false)) (any-table p f k)
+    ∙ sym (list_any-append (λ r. p (f r)) (range 0 k) (k ∷ []))
+    ∙ sym (ap (λ xs. list_any (λ r. p (f r)) xs) (range_snoc 0 k k (omega arith)))
 
-pub unmarked-empty : (owners marks : List ℕ) (n k : ℕ) → Marked owners marks (replicate n 0) → k ≤ n
-    → any (λ r. eqb (at marks r) 0) (range 0 k) ≡ empty_rank k owners
+-- a rank without a vertex is a 0 among the first k counts
+pub empty-counts : (owners : List ℕ) (n k : ℕ) → k ≤ n → list_any (λ y. eqb y 0) (take k (table (owned owners) n)) ≡ empty_rank k owners
 unfolding empty_rank
-unmarked-empty owners marks n k m h =
-    any-ext (λ r. eqb (at marks r) 0) (λ r. eqb (owned owners r) 0) 0 k (λ r l b. unmarked owners marks n m r (omega arith))
+empty-counts owners n k h = rw (take-table (owned owners) n k h, any-table (λ y. eqb y 0) (owned owners) k) (any-chain (λ r. eqb (owned owners r) 0) (range 0 k))
 
 -- the causes by their order: the numbers of ranks and owners first
 pub counts-refused : (k : ℕ) (owners : List ℕ) → (counts_cause k (length owners) ≡ 0 → ⊥) → counts_cause k (length owners) ≡ from_owners k owners
@@ -116,6 +111,14 @@ assigned k owners z = split (eqb k 0 || eqb k unassigned || ltb (length owners) 
       filled = λ x h. let e = eqb-false (owned owners x) 0 (none_passes (λ y. eqb (owned owners y) 0) k s x h) in omega arith;
     }))))
 
+-- the case of an answer, by its number
+module _ (k : ℕ) (owners : List ℕ) (r : Result (Unit {0}) Refusal) (t : number_of r ≡ from_owners k owners) where
+  pub assignment-valid : (x : Unit {0}) → r ≡ Ok x → from_owners k owners ≡ 0
+  assignment-valid x e = sym t ∙ ap number_of e
+
+  pub assignment-refused : (e : Refusal) → r ≡ Err e → from_owners k owners ≡ 0 → ⊥
+  assignment-refused e h z = refusal-some e (sym (ap number_of h) ∙ t ∙ z)
+
 pub owners-numbers : (k : ℕ) (owners : List ℕ) → from_owners k owners ≤ 12
 unfolding from_owners
 owners-numbers k owners = split (bad_ranks k (length owners))
@@ -125,23 +128,6 @@ owners-numbers k owners = split (bad_ranks k (length owners))
     (λ q. split (stray_owner k owners)
     (λ r. rw (p, q, r) (omega arith))
     (λ r. split (empty_rank k owners) (λ s. rw (p, q, r, s) (omega arith)) (λ s. rw (p, q, r, s) (omega arith)))))
-
--- the case of an answer, by its number
-module _ (k : ℕ) (owners : List ℕ) (r : Assignment) (t : AssignmentTold k owners r) where
-  pub assignment-valid : r ≡ Valid → from_owners k owners ≡ 0
-  assignment-valid e = sym t.number ∙ ap assignment_number e
-
-  pub assignment-refused : (number : ℕ) → r ≡ Refused number → from_owners k owners ≡ 0 → ⊥
-  assignment-refused number e z =
-      let valid : r ≡ Valid = t.answer ∙ rw (eq-eqb (from_owners k owners) 0 z) in
-      let clash : ◌≡◌ {A = ℕ} 0 1 = cc in
-      omega arith
-
--- b tells whether one of the ranks below i, which is k, is without a mark
-pub marks-decide : (k : ℕ) (owners marks : List ℕ) (i : ℕ) (b : Bool) → counts_cause k (length owners) ≡ 0 → stray_owner k owners ≡ false
-    → Marked owners marks (replicate 256 0) → i ≡ k → b ≡ any (λ r. eqb (at marks r) 0) (range 0 i) → cond b 9 0 ≡ from_owners k owners
-marks-decide k owners marks i b e s m h t =
-    rw (t, h, unmarked-empty owners marks 256 k m (counts-limit k (length owners) e)) (rw s at (counts-passed k owners e))
 
 -- ---- the counts of n ranks, one owner after the other
 

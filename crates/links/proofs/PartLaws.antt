@@ -106,12 +106,6 @@ pub put_back-set : (w : List ℕ) (a e i v : ℕ) → a ≤ e → e ≤ length w
 put_back-set w a e i v h k m =
     rw (← take-set-lt (e - a) (drop a w) i v m, ← drop-set-lt (e - a) (drop a w) i v m, take-append-drop (e - a) (set (drop a w) i v), ← drop-set-add a w i v, ← take-set-le a w (a + i) v (omega arith), take-append-drop a (set w (a + i) v))
 
--- and so is one through the part from a on, wherever it goes
-pub put_back-set-rest : (w : List ℕ) (a i v : ℕ) → a ≤ length w → put_back w a (length w) (set (part w a (length w)) i v) ≡ set w (a + i) v
-put_back-set-rest w a i v h =
-    let l : length (drop a w) ≡ length w - a = length-drop a w in
-    rw (take_all (length w - a) (drop a w) (omega arith), drop_of_length-le (drop a w) {i = length w - a} (omega arith), append-nil, ← drop-set-add a w i v, ← take-set-le a w (a + i) v (omega arith), take-append-drop a (set w (a + i) v))
-
 -- ---- a store, seen through a part
 
 -- a store in a part

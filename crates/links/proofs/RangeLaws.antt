@@ -151,9 +151,6 @@ all_done p k i h = let e : k - i ≡ 0 = omega arith in rw e
 pub any-done : (p : ℕ → Bool) (k i : ℕ) → k ≤ i → false ≡ any p (range i (k - i))
 any-done p k i h = let e : k - i ≡ 0 = omega arith in rw e
 
-pub any-start : (p : ℕ → Bool) (n : ℕ) → any p (range 0 (n - 0)) ≡ any p (range 0 n)
-any-start p n = let e : n - 0 ≡ n = omega arith in rw e
-
 -- where none passes, this one does not
 pub none_passes : (p : ℕ → Bool) (n : ℕ) → any p (range 0 n) ≡ false → (i : ℕ) → i < n → p i ≡ false
 none_passes p n e i h = all_in (λ x. p x ≡ false) (range 0 n) i (any_none p (range 0 n) e) (elem-range i 0 n (omega arith) (omega arith))

@@ -1,8 +1,10 @@
 -- A level's graph is its rows: row v is the list of v's neighbors. Owners and weights are lists with an entry for each vertex.
 -- 01's turbine is a vertex here, its crew a rank. Assumes nothing.
-use Rattle.std.specs.Prelude.{ℕ, ◌+◌, ◌-◌, ◌<◌, ◌≤◌, ◌≡◌, Bool, true, false, not, ◌&&◌, ◌||◌, cond, List, [], ◌∷◌, map, length, get_or, leb, ltb, eqb}
+use Rattle.std.specs.Prelude.{ℕ, ◌+◌, ◌-◌, ◌<◌, ◌≤◌, ◌≡◌, Bool, true, false, not, ◌&&◌, ◌||◌, cond, List, [], ◌∷◌, map, length, get_or, leb, ltb, eqb, Result}
 use Rattle.links.specs.Lists.{at, All, filter, any, all, range, sum, elem, concat_map}
 use Rattle.links.specs.Parts.{part}
+use Rattle.links.specs.Refusals.{number_of}
+use Rattle.links.specs.declared.refusal.Refusal.{Refusal}
 
 abbrev pub row : List (List ℕ) → ℕ → List ℕ
 row rows v = get_or rows v []
@@ -86,10 +88,10 @@ pub record SoundLists (offsets neighbors : List ℕ) : Type 0 where
   pub last : at offsets (vertex_count offsets) ≡ length neighbors
   pub sound : Sound (rows_of offsets neighbors)
 
--- what the list test answers, and what its 0 is worth
-pub record ListsTested (offsets neighbors : List ℕ) (answer : ℕ) : Type 0 where
-  pub cause : answer ≡ lists_cause offsets neighbors
-  pub sound : answer ≡ 0 → SoundLists offsets neighbors
+-- what the list test answers, and what an answer without a refusal is worth
+pub record ListsTested (offsets neighbors : List ℕ) (answer : Result (Unit {0}) Refusal) : Type 0 where
+  pub cause : number_of answer ≡ lists_cause offsets neighbors
+  pub sound : number_of answer ≡ 0 → SoundLists offsets neighbors
 
 -- ---- owners
 

@@ -7,3 +7,4 @@ pub mod Owners
 pub mod Options
 pub mod ListTest
 pub mod Workloads
+pub mod Refusals

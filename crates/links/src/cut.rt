@@ -4,22 +4,15 @@ ghost use Rattle.links.specs.Loads.{saturating};
 ghost use Rattle.links.specs.Graph.{rows_of, foreign_in, cut_entries};
 
 use crate::lists::{neighbors_of, vertex_count};
-use crate::loads::saturating_add;
-use crate::parts::{index, number_at};
+use crate::parts::number_at;
 
 // How many of a row's vertices another rank than home owns.
 fn foreign(row: &[u32], owners: &[u32], home: u32) -> u64
     ensures { result ≡ foreign_in row.now owners.now home }
 {
-    let mut x: u64 = 0;
-    let mut i = 0;
-    while i < row.len() {
-        if number_at(owners, index(row[i])) != home {
-            x += 1;
-        }
-        i += 1;
-    }
-    x
+    row.iter()
+        .filter(|u| number_at(owners, **u as usize) != home)
+        .count() as u64
 }
 
 // How many neighbor entries join two ranks: a cut link counts from both its ends.
@@ -27,13 +20,10 @@ fn foreign(row: &[u32], owners: &[u32], home: u32) -> u64
 pub fn cut_entries(offsets: &[u32], neighbors: &[u32], owners: &[u32]) -> u64
     ensures { result ≡ saturating (cut_entries (rows_of offsets.now neighbors.now) owners.now) }
 {
-    let n = vertex_count(offsets);
     let mut x: u64 = 0;
-    let mut v = 0;
-    while v < n {
+    for v in 0..vertex_count(offsets) {
         let row = neighbors_of(offsets, neighbors, v as u64);
-        x = saturating_add(x, foreign(row, owners, number_at(owners, v)));
-        v += 1;
+        x = x.saturating_add(foreign(row, owners, number_at(owners, v)));
     }
     x
 }

@@ -7,6 +7,7 @@ mod loads;
 mod options;
 mod owners;
 mod parts;
+mod refusal;
 mod workloads;
 
 pub use cut::cut_entries;
@@ -14,10 +15,9 @@ pub use lists::{
     any_from, holds, lists_cause, neighbors_cause, neighbors_of, never_falls, site_cause,
     vertex_count,
 };
-pub use loads::{between, load_cap, minimum_load, saturating_add, saturating_mul};
+pub use loads::{load_cap, minimum_load};
 pub use options::{AbtmMultilevelOptions, AbtmMultilevelStats, bad_list_length};
-pub use owners::{
-    Assignment, Count, Owner, from_owners, owned_count, owned_counts, owner_of, stray_owner,
-};
-pub use parts::{copy_into, copy_part, fill, fill_part, index, store, store_part, wide};
+pub use owners::{from_owners, owned_count, owned_counts, owner_of, stray_owner};
+pub use parts::{copy_into, copy_part, fill, fill_part, store, store_part};
+pub use refusal::{Refusal, number_of};
 pub use workloads::{bad_workload, workloads_cause};

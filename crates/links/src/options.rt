@@ -1,10 +1,14 @@
 // The options and the stats of a division, by value.
 ghost use Rattle.std.specs.Prelude.{◌≡◌};
-ghost use Rattle.links.specs.Options.{bad_list_length, bad_swaps, options_cause, stop_size, zero_stats, added_pairs, added_moves, grown_stats, measured_stats};
+ghost use Rattle.links.specs.Refusals.{number_of};
+ghost use Rattle.links.specs.Options.{bad_list_length, bad_swaps, options_cause, stop_size, added_pairs, added_moves, grown_stats, measured_stats};
 
-use crate::loads::{between, saturating_add, saturating_mul};
+use crate::refusal::Refusal;
 
-#[derive(Clone, Copy)]
+// The largest imbalance.
+const MAX_PER_MILLE: u64 = 500;
+
+#[derive(Clone, Copy, Debug, PartialEq, Eq)]
 pub struct AbtmMultilevelOptions {
     pub max_levels: u64,
     pub coarse_vertices_per_rank: u64,
@@ -14,7 +18,8 @@ pub struct AbtmMultilevelOptions {
     pub swap_pass_factor: u64,
 }
 
-#[derive(Clone, Copy)]
+// Its default is what every refusal stands for: zeros.
+#[derive(Clone, Copy, Debug, Default, PartialEq, Eq)]
 pub struct AbtmMultilevelStats {
     pub levels_built: u64,
     pub coarsest_vertices: u64,
@@ -28,93 +33,78 @@ pub struct AbtmMultilevelStats {
 
 // Whether a list of the swaps' candidates may not be so long.
 // Rules out: a list of 12 refused; one of 2^32 + 8 taken for 8.
+#[tactic(auto, unfolding(crate::specs::Options::bad_list_length))]
 pub fn bad_list_length(length: u64) -> bool
     ensures { result ≡ bad_list_length length }
 {
-    !between(1, 12, length)
+    !(1..=12).contains(&length)
 }
 
 impl AbtmMultilevelOptions {
-    // 0, 1 or 17.
+    // 1 or 17.
     // Rules out: an imbalance of 500 refused; one of 2^32 + 30 taken for 30; 17 where 1 holds too.
-    pub fn validate(self) -> u32
-        ensures { result ≡ options_cause self }
+    #[tactic(auto, unfolding(crate::specs::Options::options_cause, crate::specs::Options::bad_options))]
+    pub fn validate(self) -> Result<(), Refusal>
+        ensures { number_of result ≡ options_cause self }
     {
-        if self.max_levels == 0 {
-            return 1;
+        if self.max_levels == 0
+            || self.coarse_vertices_per_rank == 0
+            || self.refinement_passes == 0
+            || self.imbalance_per_mille > MAX_PER_MILLE
+        {
+            return Err(Refusal::InvalidOptions);
         }
-        if self.coarse_vertices_per_rank == 0 {
-            return 1;
+        if self.bad_swaps() {
+            return Err(Refusal::InvalidSwaps);
         }
-        if self.refinement_passes == 0 {
-            return 1;
-        }
-        if self.imbalance_per_mille > 500 {
-            return 1;
-        }
-        if self.bad_swaps() { 17 } else { 0 }
+        Ok(())
     }
 
     // Whether the list length or the pass factor is out of its range.
+    #[tactic(auto, unfolding(crate::specs::Options::bad_swaps))]
     fn bad_swaps(self) -> bool
         ensures { result ≡ bad_swaps self }
     {
-        if bad_list_length(self.swap_list_length) {
-            return true;
-        }
-        !between(1, 8, self.swap_pass_factor)
+        bad_list_length(self.swap_list_length) || !(1..=8).contains(&self.swap_pass_factor)
     }
 
     // Coarsening stops at so many groups.
     // Rules out: a product that wraps to a small number; 0 groups where the option is 0.
+    #[tactic(auto, unfolding(crate::specs::Options::stop_size))]
     pub fn stop_size(self, ranks: u32) -> u64
         ensures { result ≡ stop_size self ranks }
     {
-        let k = ranks as u64;
-        let size = saturating_mul(k, self.coarse_vertices_per_rank);
-        if k < size { size } else { k }
+        let k = u64::from(ranks);
+        k.max(k.saturating_mul(self.coarse_vertices_per_rank))
     }
 }
 
 impl AbtmMultilevelStats {
-    // What every refusal returns.
-    // Rules out: a level counted where none was built; the cut of a refused site.
-    pub fn zero() -> Self
-        ensures { result ≡ zero_stats }
-    {
-        Self {
-            levels_built: 0,
-            coarsest_vertices: 0,
-            matched_pairs: 0,
-            singleton_aggregates: 0,
-            coarse_restarts: 0,
-            refinement_moves: 0,
-            final_cut_nnz: 0,
-            final_communication_volume: 0,
-        }
-    }
     // One level more, with its pairs and singletons.
     // Rules out: the counts of the last level in place of the sums; another count set back to 0.
+    #[tactic(auto, unfolding(crate::specs::Options::added_pairs))]
     pub fn added_pairs(mut self, pairs: u64, singletons: u64) -> Self
         ensures { result ≡ added_pairs self pairs singletons }
     {
-        self.levels_built = saturating_add(self.levels_built, 1);
-        self.matched_pairs = saturating_add(self.matched_pairs, pairs);
-        self.singleton_aggregates = saturating_add(self.singleton_aggregates, singletons);
+        self.levels_built = self.levels_built.saturating_add(1);
+        self.matched_pairs = self.matched_pairs.saturating_add(pairs);
+        self.singleton_aggregates = self.singleton_aggregates.saturating_add(singletons);
         self
     }
 
     // The moves and swaps of one level more.
     // Rules out: a sum that wraps; the last level's moves in place of the sum.
+    #[tactic(auto, unfolding(crate::specs::Options::added_moves))]
     pub fn added_moves(mut self, moves: u64) -> Self
         ensures { result ≡ added_moves self moves }
     {
-        self.refinement_moves = saturating_add(self.refinement_moves, moves);
+        self.refinement_moves = self.refinement_moves.saturating_add(moves);
         self
     }
 
     // The groups that growth met, and its restarts.
     // Rules out: the finest level's vertices; restarts added to what was there.
+    #[tactic(auto, unfolding(crate::specs::Options::grown_stats))]
     pub fn grown(mut self, coarsest: u64, restarts: u64) -> Self
         ensures { result ≡ grown_stats self coarsest restarts }
     {
@@ -125,6 +115,7 @@ impl AbtmMultilevelStats {
 
     // The cut and the volume of the owners at the end.
     // Rules out: cut and volume in each other's place; a count of moves set back to 0.
+    #[tactic(auto, unfolding(crate::specs::Options::measured_stats))]
     pub fn measured(mut self, cut: u64, volume: u64) -> Self
         ensures { result ≡ measured_stats self cut volume }
     {

@@ -1,34 +1,13 @@
 // Parts of the lent work slice: numbers are stored, filled and copied in a slice, or in a part of it that is lent for that.
-ghost use Rattle.std.specs.Prelude.{◌≡◌, ◌+◌, min, length, set, replicate};
+ghost use Rattle.std.specs.Prelude.{◌≡◌, ◌+◌, length, set, replicate};
 ghost use Rattle.links.specs.Lists.{at};
 ghost use Rattle.links.specs.Parts.{copied, filled_part, copied_part};
-
-// Rules out: the lowest 16 bits alone; a number above 2^31 taken for a negative one.
-pub fn index(x: u32) -> usize
-    ensures { result ≡ x }
-{
-    x as usize
-}
-
-// Rules out: the lowest 16 bits alone; a number above 2^31 taken for a negative one.
-pub fn wide(x: u32) -> u64
-    ensures { result ≡ x }
-{
-    x as u64
-}
-
-// The less of two numbers.
-fn least(a: usize, b: usize) -> usize
-    ensures { result ≡ min a b }
-{
-    if a < b { a } else { b }
-}
 
 // The number in the place i, 0 past the end.
 pub(crate) fn number_at(xs: &[u32], i: usize) -> u32
     ensures { result ≡ at xs.now i }
 {
-    if i < xs.len() { xs[i] } else { 0 }
+    xs.get(i).copied().unwrap_or(0)
 }
 
 // x in the place i; nothing past the end.
@@ -45,11 +24,7 @@ pub fn store(s: &mut [u32], i: usize, x: u32)
 pub fn fill(s: &mut [u32], x: u32)
     ensures { s.new ≡ replicate (length s.old) x }
 {
-    let mut i = 0;
-    while i < s.len() {
-        s[i] = x;
-        i += 1;
-    }
+    s.fill(x);
 }
 
 // src over the front of dst, as much of it as there is room for.
@@ -57,12 +32,8 @@ pub fn fill(s: &mut [u32], x: u32)
 pub fn copy_into(dst: &mut [u32], src: &[u32])
     ensures { dst.new ≡ copied dst.old src.now }
 {
-    let n = least(src.len(), dst.len());
-    let mut i = 0;
-    while i < n {
-        dst[i] = src[i];
-        i += 1;
-    }
+    let n = src.len().min(dst.len());
+    dst[..n].copy_from_slice(&src[..n]);
 }
 
 // x in the place i of the part that begins at a; nothing past the end.
@@ -70,9 +41,8 @@ pub fn copy_into(dst: &mut [u32], src: &[u32])
 pub fn store_part(work: &mut [u32], a: usize, i: usize, x: u32)
     ensures { work.new ≡ set work.old (a + i) x }
 {
-    let end = work.len();
-    if a < end {
-        store(&mut work[a..end], i, x);
+    if a < work.len() {
+        store(&mut work[a..], i, x);
     }
 }
 
@@ -81,7 +51,7 @@ pub fn store_part(work: &mut [u32], a: usize, i: usize, x: u32)
 pub fn fill_part(work: &mut [u32], a: usize, e: usize, x: u32)
     ensures { work.new ≡ filled_part work.old a e x }
 {
-    let end = least(e, work.len());
+    let end = e.min(work.len());
     if a < end {
         fill(&mut work[a..end], x);
     }
@@ -92,7 +62,7 @@ pub fn fill_part(work: &mut [u32], a: usize, e: usize, x: u32)
 pub fn copy_part(work: &mut [u32], a: usize, e: usize, src: &[u32])
     ensures { work.new ≡ copied_part work.old a e src.now }
 {
-    let end = least(e, work.len());
+    let end = e.min(work.len());
     if a < end {
         copy_into(&mut work[a..end], src);
     }

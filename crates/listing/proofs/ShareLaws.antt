@@ -8,19 +8,19 @@ use lib.Seq.{take_at, length-take-le}
 use lib.Dec.{eqb, ltb}
 use borrow.Author.Tests.{le-ltb, eq-eqb, eqb-true}
 use Rattle.io.specs.Counts.{IsPrefixLen}
+use Rattle.std.specs.Prelude.{Result, Ok, Err}
+use Rattle.links.specs.Refusals.{refusal_number, number_of}
+use Rattle.links.specs.declared.refusal.Refusal.{Refusal}
 use Rattle.links.specs.declared.options.AbtmMultilevelStats.{AbtmMultilevelStats}
+use Rattle.links.proofs.RefusalLaws.{refusal-some}
 use Rattle.links.proofs.ListLaws.{split}
 use Rattle.links.proofs.PackLaws.{length-offsets}
 use Rattle.multilevel.specs.Causes.{Call}
 use Rattle.multilevel.specs.Division.{Outcome, refused, divided, division}
 use Rattle.multilevel.specs.Demand3.{site_rows}
-use Rattle.multilevel.specs.Contract.{answer_number, answer_of, owners_after, Partitioned}
-use Rattle.multilevel.specs.File.{sizes_of, vertex_count_of, link_count_of, file_rows, file_offsets, file_neighbors, file_workloads, file_cause, reader_cause, read_number, FileRead}
+use Rattle.multilevel.specs.Contract.{Answers, owners_after, Partitioned}
+use Rattle.multilevel.specs.File.{sizes_of, vertex_count_of, link_count_of, file_rows, file_offsets, file_neighbors, file_workloads, file_cause, reader_cause, FileRead}
 use Rattle.multilevel.specs.declared.file.Sizes.{Sizes}
-use Rattle.multilevel.specs.declared.file.Read.{Read}
-use Rattle.multilevel.specs.declared.file.Read.TheVariants.{Site, Refused}
-use Rattle.multilevel.specs.declared.driver.Answer.{Answer}
-use Rattle.multilevel.specs.declared.driver.Answer.TheVariants.{Divided, Refused as Declined}
 use Rattle.multilevel.proofs.CutLaws.{half-told}
 use Rattle.multilevel.proofs.FileLaws.{accepted}
 use Rattle.multilevel.proofs.FileRowLaws.{length-file, length-entries}
@@ -54,30 +54,32 @@ module _ {xs t t₁ : List ℕ} {room m : ℕ} (p : Told xs room t t₁ m) where
 
 -- ---- what a division told
 
-outcome-divided : (o : Outcome) (s : AbtmMultilevelStats) → answer_of o ≡ Divided s → (w : List ℕ) × (o ≡ divided w s)
-outcome-divided (refused number) s e = let z : ◌≡◌ {A = ℕ} 0 1 = cc in absurd (omega arith)
-outcome-divided (divided w s₁) s e = (w, cc)
+outcome-divided
+    : (o : Outcome) (a : Result AbtmMultilevelStats Refusal) (s : AbtmMultilevelStats) → Answers o a → a ≡ Ok s → (w : List ℕ) × (o ≡ divided w s)
+outcome-divided (refused number) a s p e = let z : ⊥ = cc (p.1) in absurd z
+outcome-divided (divided w s₁) a s p e = (w, cc)
 
-outcome-refused : (o : Outcome) (number : ℕ) → answer_of o ≡ Declined number → o ≡ refused number
-outcome-refused (refused n) number e = cc
-outcome-refused (divided w s) number e = let z : ◌≡◌ {A = ℕ} 0 1 = cc in absurd (omega arith)
+outcome-refused
+    : (o : Outcome) (a : Result AbtmMultilevelStats Refusal) (e : Refusal) → Answers o a → a ≡ Err e → o ≡ refused (refusal_number e)
+outcome-refused (refused n) a e p k = cc
+outcome-refused (divided w s) a e p k = cc
 
-module _ {c : Call} {owners owners' work work' : List ℕ} {a : Answer} (p : Partitioned c owners owners' work work' a) where
+module _ {c : Call} {owners owners' work work' : List ℕ} {a : Result AbtmMultilevelStats Refusal} (p : Partitioned c owners owners' work work' a) where
   -- the first n owners are the division's
   pub owners-told
       : (s : AbtmMultilevelStats) (n : ℕ)
-      → a ≡ Divided s
+      → a ≡ Ok s
       → length c.offsets ≡ n + 1
       → (n ≡ length (take n owners')) × ((division c).outcome ≡ divided (take n owners') s)
   owners-told s n e h =
-      let d = outcome-divided (division c).outcome s (sym p.answer-is ∙ e) in
+      let d = outcome-divided (division c).outcome a s p.answer-is e in
       let size : length d.0 ≡ n = (p.demand3.shares d.0 s d.1).size ∙ omega arith in
       let all : owners' ≡ d.0 ++ drop (length d.0) owners = p.owners-are ∙ ap (λ (o : Outcome). owners_after o owners) d.1 in
       let first : take n owners' ≡ d.0 = ap (take n) all ∙ take_at d.0 (drop (length d.0) owners) n size in
       (sym (ap length first ∙ size), d.1 ∙ ap (λ (w : List ℕ). divided w s) (sym first))
 
-  pub refusal-told : (n number : ℕ) → a ≡ Declined n → number ≡ answer_number a → (division c).outcome ≡ refused number
-  refusal-told n number e k = rw (k, e) (outcome-refused (division c).outcome n (sym p.answer-is ∙ e))
+  pub refusal-told : (e : Refusal) (number : ℕ) → a ≡ Err e → number ≡ number_of a → (division c).outcome ≡ refused number
+  refusal-told e number k q = rw (q, k) (outcome-refused (division c).outcome a e p.answer-is k)
 
 module _ (c : Call) where
   -- with half of the stats' cut, which is the cut links
@@ -130,19 +132,13 @@ reader-enough b =
     ) (sym z))
     (λ p. rw p)
 
-module _ {b o n w o' n' w' : List ℕ} {r : Read} (f : FileRead b o n w o' n' w' r) where
-  reader-zero : (s : Sizes) → r ≡ Site s → (reader_cause b (length o) (length n) (length w) ≡ 0) × (s ≡ sizes_of b)
+module _ {b o n w o' n' w' : List ℕ} {r : Result Sizes Refusal} (f : FileRead b o n w o' n' w' r) where
+  reader-zero : (s : Sizes) → r ≡ Ok s → (reader_cause b (length o) (length n) (length w) ≡ 0) × (s ≡ sizes_of b)
   reader-zero s e =
-      split (eqb (reader_cause b (length o) (length n) (length w)) 0)
-      (λ p.
-      let q : r ≡ Site (sizes_of b) = rw p at f.answer in
-      (eqb-true (reader_cause b (length o) (length n) (length w)) 0 p, cc))
-      (λ p.
-      let q : r ≡ Refused (reader_cause b (length o) (length n) (length w)) = rw p at f.answer in
-      let z : ◌≡◌ {A = ℕ} 0 1 = cc in
-      absurd (omega arith))
+      let z : reader_cause b (length o) (length n) (length w) ≡ 0 = sym (rw e at f.number) in
+      (z, cc (f.answer z))
 
-  pub site-read : (s : Sizes) → r ≡ Site s → SiteRead b o' n' w' s
+  pub site-read : (s : Sizes) → r ≡ Ok s → SiteRead b o' n' w' s
   unfolding sizes_of
   site-read s e =
       let d = reader-zero s e in
@@ -170,22 +166,18 @@ module _ {b o n w o' n' w' : List ℕ} {r : Read} (f : FileRead b o n w o' n' w'
 
   -- with enough lent, a refusal is the file's own
   pub file-refused
-      : (m number : ℕ) → r ≡ Refused m → number ≡ read_number r → length o ≡ 65 → length n ≡ 256 → length w ≡ 64 → refusal_text number ≡ file_text b
+      : (e : Refusal) (number : ℕ) → r ≡ Err e → number ≡ number_of r → length o ≡ 65 → length n ≡ 256 → length w ≡ 64 → refusal_text number ≡ file_text b
   unfolding file_text
-  file-refused m number e k ho hn hw =
+  file-refused e number q k ho hn hw =
       let same : reader_cause b (length o) (length n) (length w) ≡ file_cause b = rw (ho, hn, hw) (reader-enough b) in
+      let i : number_of r ≡ file_cause b = f.number ∙ same in
       split (eqb (file_cause b) 0)
-      (λ p.
-      let t : r ≡ Site (sizes_of b) = rw (same, p) at f.answer in
-      let z : ◌≡◌ {A = ℕ} 0 1 = cc in
-      absurd (omega arith))
-      (λ p. let i : number ≡ file_cause b = k ∙ f.number ∙ same in rw (p, i))
+      (λ p. absurd (refusal-some e (rw q at i ∙ eqb-true (file_cause b) 0 p)))
+      (λ p. rw (k, p, i))
 
 pub site-text
-    : {b offsets neighbors workloads : List ℕ} {s : Sizes} (n e : ℕ)
+    : {b offsets neighbors workloads : List ℕ} {s : Sizes}
     → SiteRead b offsets neighbors workloads s
-    → n ≡ s.vertices
-    → e ≡ s.links
-    → call_text (take (n + 1) offsets) (take (2 * e) neighbors) (take n workloads) s ≡ file_text b
+    → call_text (take (s.vertices + 1) offsets) (take (2 * s.links) neighbors) (take s.vertices workloads) s ≡ file_text b
 unfolding file_text
-site-text {b} n e r hn he = rw (hn, he, r.offsets_are, r.neighbors-are, r.workloads-are, r.sizes, eq-eqb (file_cause b) 0 r.accepts)
+site-text {b} r = rw (r.offsets_are, r.neighbors-are, r.workloads-are, r.sizes, eq-eqb (file_cause b) 0 r.accepts)

@@ -1,31 +1,18 @@
--- Laws of texts: one byte more, a number's digits, one text after another. Assumes nothing.
+-- Laws of texts: a number's digits, one text after another. Assumes nothing.
 use Prim.Native.Nat.{ℕ, zero, suc, ◌+◌, ◌-◌, ◌*◌, ◌/◌, ◌^◌, ◌≤◌, ◌<◌}
-use mathlib.Core.Path.{◌≡◌, refl, ◌∙◌}
-use mathlib.Core.List.{List, [], ◌∷◌, ◌++◌}
+use mathlib.Core.Path.{◌≡◌, ◌∙◌}
+use mathlib.Core.List.{List, ◌++◌}
 use native.Mathlib.Omega.{arith}
-use native.Mathlib.Numerals.{add-one}
 use native.Mathlib.Nat.{zero-add, pow-zero, pow-suc, mod-eq_of_lt, div-lt_iff_lt-mul, le-div_iff_mul-le}
-use lib.ListN.{length, take, drop, set, get_or, length-append}
-use lib.Seq.{sets-eq, take-suc}
+use lib.ListN.{length, drop, length-append}
+use lib.Seq.{sets-eq}
 use lib.Dec.{leb, ltb}
 use borrow.Author.Tests.{lt-ltb, le-ltb, leb-true, leb-false}
 use Rattle.links.proofs.ListLaws.{split}
 use Rattle.io.specs.Digits.{last_digits, IsDigitCount}
 use Rattle.multilevel.specs.File.{Written}
-use Rattle.multilevel.proofs.FileWriteLaws.{written_one, written-more}
+use Rattle.multilevel.proofs.FileWriteLaws.{written-more}
 use Rattle.listing.specs.Text.{decimal_within, decimal, Told}
-
--- one byte more
-pub put-more
-    : (bs t t₁ : List ℕ) (at i : ℕ)
-    → i < length bs
-    → Written (take i bs) at t t₁ (at + i)
-    → Written (take (i + 1) bs) at t (set t₁ (at + i) (get_or bs i 0)) (at + (i + 1))
-put-more bs t t₁ at i h p =
-    let x = get_or bs i 0 in
-    let one = written_one (x ∷ []) (at + i) t₁ x x refl refl in
-    let e : at + i + 1 ≡ at + (i + 1) = omega arith in
-    rw (add-one, take-suc bs i 0 h, ← add-one, ← e) (written-more (take i bs) (x ∷ []) at t t₁ (set t₁ (at + i) x) (at + i) (at + i + 1) p one)
 
 -- ---- a number's digits
 
@@ -100,9 +87,6 @@ told {xs} {t} {t₁} {room} {m} h k p =
       size = rw (le-ltb (length t) room k) (p.end_is ∙ zero-add (length xs));
       is = rw (le-ltb (length t) room k) (front (omega arith) p);
     }
-
-pub untold : (xs t : List ℕ) (room : ℕ) → length t < room → Told xs room t t 0
-untold xs t room h = record { size = rw (lt-ltb (length t) room h); is = rw (lt-ltb (length t) room h) }
 
 pub told-as : {xs ys t t₁ : List ℕ} {room m : ℕ} → Told xs room t t₁ m → xs ≡ ys → Told ys room t t₁ m
 told-as p e = rw e at p

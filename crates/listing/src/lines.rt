@@ -5,7 +5,7 @@ ghost use Rattle.listing.specs.Text.{Told};
 ghost use Rattle.listing.specs.Listing.{head_text, line_text, lines_text, coarse_text, fine_text, stats_text, site_text, refusal_text, site_room, refusal_room};
 
 use crate::text::{put, put_field, put_number};
-use links::{AbtmMultilevelStats, wide};
+use links::AbtmMultilevelStats;
 
 fn put_head(text: &mut [u8], n: u64, ranks: u32) -> usize
     requires { 57 ≤ length text.old }
@@ -13,7 +13,7 @@ fn put_head(text: &mut [u8], n: u64, ranks: u32) -> usize
     ensures upper_bound { result ≤ 57 }
 {
     let a = put_field(text, 0, b"turbines ", n);
-    let b = put_field(text, a, b" crews ", wide(ranks));
+    let b = put_field(text, a, b" crews ", u64::from(ranks));
     put(text, b, b"\n")
 }
 
@@ -23,7 +23,7 @@ fn put_line(text: &mut [u8], at: usize, v: u64, rank: u32) -> usize
     ensures upper_bound { result ≤ at + 42 }
 {
     let a = put_number(text, at, v);
-    let b = put_field(text, a, b" ", wide(rank));
+    let b = put_field(text, a, b" ", u64::from(rank));
     put(text, b, b"\n")
 }
 
@@ -33,10 +33,8 @@ fn put_lines(text: &mut [u8], from: usize, owners: &[u32]) -> usize
     ensures upper_bound { result ≤ from + 42 * length owners.now }
 {
     let mut at = from;
-    let mut v = 0;
-    while v < owners.len() {
-        at = put_line(text, at, v as u64, owners[v]);
-        v += 1;
+    for (v, &rank) in owners.iter().enumerate() {
+        at = put_line(text, at, v as u64, rank);
     }
     at
 }
@@ -78,10 +76,7 @@ fn put_stats(text: &mut [u8], at: usize, s: AbtmMultilevelStats) -> usize
 fn has_room(bytes: usize, n: usize) -> bool
     ensures { result ≡ leb (site_room n) bytes }
 {
-    if bytes < 281 {
-        return false;
-    }
-    n <= (bytes - 281) / 42
+    bytes >= 281 && n <= (bytes - 281) / 42
 }
 
 // The listing of a division. A slice of less than 281 + 42 for each vertex is left as it was, and the answer is 0.
@@ -90,12 +85,12 @@ fn has_room(bytes: usize, n: usize) -> bool
 pub fn write_site(text: &mut [u8], ranks: u32, owners: &[u32], stats: AbtmMultilevelStats) -> usize
     ensures { Told (site_text ranks owners.now (stats.final_cut_nnz / 2) stats) (site_room (length owners.now)) text.old text.new result }
 {
-    if has_room(text.len(), owners.len()) {
-        let a = put_head(text, owners.len() as u64, ranks);
-        let b = put_lines(text, a, owners);
-        return put_stats(text, b, stats);
+    if !has_room(text.len(), owners.len()) {
+        return 0;
     }
-    0
+    let a = put_head(text, owners.len() as u64, ranks);
+    let b = put_lines(text, a, owners);
+    put_stats(text, b, stats)
 }
 
 // The line of a refusal. A slice of less than 29 bytes is left as it was, and the answer is 0.
@@ -106,6 +101,6 @@ pub fn write_refusal(text: &mut [u8], number: u32) -> usize
     if text.len() < 29 {
         return 0;
     }
-    let a = put_field(text, 0, b"refused ", wide(number));
+    let a = put_field(text, 0, b"refused ", u64::from(number));
     put(text, a, b"\n")
 }

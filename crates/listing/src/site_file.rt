@@ -5,8 +5,8 @@ ghost use Rattle.listing.specs.Text.{Told};
 ghost use Rattle.listing.specs.Share.{call_text, file_text, share_room};
 
 use crate::lines::{write_refusal, write_site};
-use links::index;
-use multilevel::{Answer, Read, Sizes, abtm_multilevel_partition, read_link_file};
+use links::number_of;
+use multilevel::{Sizes, abtm_multilevel_partition, read_link_file};
 
 // The text of a site's division.
 fn tell_division(
@@ -21,21 +21,19 @@ fn tell_division(
 {
     let mut owners = [0u32; 64];
     let mut work = [0u32; 15396];
-    let n = index(s.vertices);
-    let options = s.options;
-    let a = abtm_multilevel_partition(
+    let answer = abtm_multilevel_partition(
         offsets,
         neighbors,
         workloads,
         s.ranks,
-        options,
+        s.options,
         &mut owners,
         &mut work,
     );
-    let Answer::Divided(stats) = a else {
-        return write_refusal(text, a.number());
+    let Ok(stats) = answer else {
+        return write_refusal(text, number_of(answer));
     };
-    write_site(text, s.ranks, &owners[..n], stats)
+    write_site(text, s.ranks, &owners[..s.vertices as usize], stats)
 }
 
 // The text of a link file's answer, for any bytes. A slice of less than 2,969 bytes is left as it was, and the answer is 0.
@@ -51,10 +49,10 @@ pub fn share(file: &[u8], text: &mut [u8]) -> usize
     let mut neighbors = [0u32; 256];
     let mut workloads = [0u32; 64];
     let read = read_link_file(file, &mut offsets, &mut neighbors, &mut workloads);
-    let Read::Site(s) = read else {
-        return write_refusal(text, read.number());
+    let Ok(s) = read else {
+        return write_refusal(text, number_of(read));
     };
-    let n = index(s.vertices);
-    let m = 2 * index(s.links);
+    let n = s.vertices as usize;
+    let m = 2 * s.links as usize;
     tell_division(&offsets[..n + 1], &neighbors[..m], &workloads[..n], s, text)
 }

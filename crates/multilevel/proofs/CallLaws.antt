@@ -11,7 +11,9 @@ use borrow.Author.Tests.{eq-eqb, le-ltb}
 use Rattle.links.specs.Loads.{balance}
 use Rattle.links.specs.Graph.{vertex_count}
 use Rattle.stages.specs.Level.{rows_at, weights_at, owners_at, balance_in}
-use Rattle.multilevel.specs.declared.driver.Answer.{Answer}
+use Rattle.std.specs.Prelude.{Result}
+use Rattle.links.specs.declared.refusal.Refusal.{Refusal}
+use Rattle.links.specs.declared.options.AbtmMultilevelStats.{AbtmMultilevelStats}
 use Rattle.multilevel.specs.Causes.{Call, work_need, need_of, too_short, early_cause}
 use Rattle.multilevel.specs.Division.{division}
 use Rattle.multilevel.specs.Demand3.{site_rows, balance_of, kept_steps}
@@ -111,7 +113,7 @@ module _ (c : Call) (w : List ℕ) (d : Divisible c w) where
 
     -- what the finest level told is told of the division
     pub site-told
-        : (w₂ : List ℕ) (a : Answer)
+        : (w₂ : List ℕ) (a : Result AbtmMultilevelStats Refusal)
         → LevelSolved w₁ w₂ (site_level c) (rules_for c) c.options.max_levels a
         → Told (balance_of c) c.options.refinement_passes (site_rows c) c.workloads (kept_steps c) c.options.max_levels (owners_at w₂ (site_level c)) a
     site-told w₂ a k = rw (rows-laid, weights-laid, same-balance) at k.told

@@ -1,9 +1,8 @@
 -- Laws of the causes tested before the work: what each test that passes leaves, and the first that holds. Assumes nothing.
-use Prim.Native.Nat.{ℕ, ◌+◌, ◌*◌, ◌≤◌}
+use Prim.Native.Nat.{ℕ, ◌≤◌}
 use mathlib.Core.Path.{◌≡◌, sym, ◌∙◌}
 use mathlib.Core.Bool.{Bool, false, ◌||◌}
 use native.Mathlib.Omega.{arith}
-use native.Mathlib.Nat.{mul-le-mul}
 use lib.ListN.{length}
 use lib.Dec.{ltb, eqb}
 use borrow.Author.Tests.{eqb-false, ltb-false}
@@ -106,9 +105,3 @@ module _ (c : Call) where
   early-is b2 b3 b4 b13 b5 e1 e2 e3 e4 e13 e5 = rw (e1.0, e1.1, e2, e3, e4, e13, e5)
 
 -- ---- the work that a division needs is small
-
-pub need-small : (n m k levels : ℕ) → Limited n m k levels → ((levels + 6) * (4 * n + 2 * m + 2) ≤ 12451916) × (24 * k * k ≤ 1572864)
-need-small n m k levels l =
-    let a : (levels + 6) * (4 * n + 2 * m + 2) ≤ 12451916 = mul-le-mul {n₂ = 38} {m₂ = 327682} (omega (arith, l.few-levels)) (omega (arith, l.few-vertices, l.few-entries)) in
-    let b : 24 * k * k ≤ 1572864 = mul-le-mul {n₂ = 6144} {m₂ = 256} (omega (arith, l.few-ranks)) l.few-ranks in
-    (a, b)

@@ -15,37 +15,37 @@ use Rattle.links.specs.declared.options.AbtmMultilevelStats.{AbtmMultilevelStats
 use Rattle.links.proofs.ListLaws.{split}
 use Rattle.links.proofs.RowLaws.{all-place, by_place}
 use Rattle.links.proofs.PartLaws.{length_part, kept-wide, kept_trans, kept-part-before}
+use Rattle.std.specs.Prelude.{Option, Some, None}
 use Rattle.stages.specs.Coarsen.{Coarse}
-use Rattle.stages.specs.Level.{rows_at, weights_at, group_at, owners_at, Laid, balance_in}
+use Rattle.stages.specs.Level.{rows_at, weights_at, group_at, owners_at, Laid, balance_in, moved_up}
 use Rattle.stages.specs.CoarsenCode.{Coarsenable, CoarsenedOnce, step_of, entries_of, next_of, answer_of}
 use Rattle.stages.specs.declared.level.HierarchyLevel.{HierarchyLevel}
-use Rattle.stages.specs.declared.coarsen.Coarsened.{Coarsened}
-use Rattle.stages.specs.declared.coarsen.Coarsened.TheVariants.{Same, Smaller}
+use Rattle.stages.specs.declared.coarsen.Smaller.{Smaller}
 use Rattle.stages.proofs.LevelLaws.{all-vertices}
 use Rattle.stages.proofs.GroupingLaws.{coarse-counted, coarse-weighed}
 use Rattle.stages.proofs.RankLaws.{taken-ranked}
-use Rattle.multilevel.specs.declared.driver.Answer.{Answer}
-use Rattle.multilevel.specs.declared.driver.Answer.TheVariants.{Divided, Refused}
+use Rattle.std.specs.Prelude.{Result, Ok, Err}
+use Rattle.links.specs.declared.refusal.Refusal.{Refusal}
 use Rattle.multilevel.specs.declared.driver.Rules.{Rules}
 use Rattle.multilevel.specs.Division.{coarsenings}
-use Rattle.multilevel.specs.Room.{moved_up, Stacked, TakenOver}
-use Rattle.multilevel.specs.Driver.{moves_from, moved_from, answer_for, Told}
+use Rattle.multilevel.specs.Room.{Stacked, TakenOver}
+use Rattle.multilevel.specs.Driver.{moves_from, moved_from, AnswerFor, Told}
 use Rattle.multilevel.specs.DriverCode.{Placed, Refining, LevelRefined, LevelGrown, LevelSolved}
 use Rattle.multilevel.proofs.DriverLaws.{coarsen-last, coarsen-small, coarsen-same, coarsen-more}
-use Rattle.multilevel.proofs.SolveLaws.{finer-refused, finer-check, finer-moved, told-ranked}
+use Rattle.multilevel.proofs.SolveLaws.{refused-as, finer-refused, finer-check, finer-moved, told-ranked}
 use Rattle.multilevel.proofs.PlaceLaws.{rooms, placed-last, placed-rows, placed-weights, placed-kept, kept-all}
 
 -- ---- what a step's answer says
 
 module _ (c : Coarse) (n : ℕ) where
   -- no fewer groups
-  pub answer-same : Same ≡ answer_of c n → n ≤ length c.weights
+  pub answer-same : None ≡ answer_of c n → n ≤ length c.weights
   answer-same e = split (ltb (length c.weights) n)
-      (λ p. absurd (clash (e ∙ rw p)))
+      (λ p. let q : None ≡ smaller = e ∙ rw p in absurd cc)
       (λ p. ltb-false (length c.weights) n p)
     where
-      clash : Same ≡ Smaller (length c.weights) (entries_of c) c.pairs c.singletons → ⊥
-      clash q = let z : ◌≡◌ {A = ℕ} 0 1 = cc in omega arith
+      smaller : Option Smaller
+      smaller = Some (record { groups = length c.weights; entries = entries_of c; pairs = c.pairs; singletons = c.singletons })
 
   -- fewer: these are its numbers
   pub record Fewer (groups entries pairs singletons : ℕ) : Type 0 where
@@ -55,15 +55,22 @@ module _ (c : Coarse) (n : ℕ) where
     pub pairs-are : pairs ≡ c.pairs
     pub singletons-are : singletons ≡ c.singletons
 
-  pub answer-fewer : (groups entries pairs singletons : ℕ) → Smaller groups entries pairs singletons ≡ answer_of c n → Fewer groups entries pairs singletons
-  answer-fewer groups entries pairs singletons e = split (ltb (length c.weights) n)
+  pub answer-fewer : (f : Smaller) → Some f ≡ answer_of c n → Fewer f.groups f.entries f.pairs f.singletons
+  answer-fewer f e = split (ltb (length c.weights) n)
       (λ p.
-      let q : Smaller groups entries pairs singletons ≡ Smaller (length c.weights) (entries_of c) c.pairs c.singletons = e ∙ rw p in
-      record { fewer = ltb-true (length c.weights) n p; groups-are = cc; entries-are = cc; pairs-are = cc; singletons-are = cc })
-      (λ p. absurd (clash (e ∙ rw p)))
+      let q : Some f ≡ Some smaller = e ∙ rw p in
+      let z : f ≡ smaller = cc in
+      record {
+        fewer = ltb-true (length c.weights) n p;
+        groups-are = ap (λ (x : Smaller). x.groups) z;
+        entries-are = ap (λ (x : Smaller). x.entries) z;
+        pairs-are = ap (λ (x : Smaller). x.pairs) z;
+        singletons-are = ap (λ (x : Smaller). x.singletons) z;
+      })
+      (λ p. let q : Some f ≡ None = e ∙ rw p in absurd cc)
     where
-      clash : Smaller groups entries pairs singletons ≡ Same → ⊥
-      clash q = let z : ◌≡◌ {A = ℕ} 0 1 = cc in omega arith
+      smaller : Smaller
+      smaller = record { groups = length c.weights; entries = entries_of c; pairs = c.pairs; singletons = c.singletons }
 
 -- ---- a level that is not coarsened
 
@@ -76,7 +83,7 @@ module _ (w : List ℕ) (l : HierarchyLevel) (q : Rules) (left : ℕ) (p : Place
 
   -- grown after what a discarded step left
   uncoarsened
-      : (w₁ w₂ : List ℕ) (a : Answer)
+      : (w₁ w₂ : List ℕ) (a : Result AbtmMultilevelStats Refusal)
       → Kept l.fine_to_coarse (length w) w₁ w
       → coarsenings left q.stop (rows_at w l) (weights_at w l) ≡ []
       → LevelGrown w₁ w₂ l q a
@@ -93,19 +100,19 @@ module _ (w : List ℕ) (l : HierarchyLevel) (q : Rules) (left : ℕ) (p : Place
   same-slice : Kept l.fine_to_coarse (length w) w w
   same-slice = record { same_length = refl; below = λ i h. refl; beyond = λ i h. refl }
 
-  pub solved-last : (w₂ : List ℕ) (a : Answer) → left ≡ 0 → LevelGrown w w₂ l q a → LevelSolved w w₂ l q left a
+  pub solved-last : (w₂ : List ℕ) (a : Result AbtmMultilevelStats Refusal) → left ≡ 0 → LevelGrown w w₂ l q a → LevelSolved w w₂ l q left a
   solved-last w₂ a e g =
       uncoarsened w w₂ a same-slice (ap (λ (n : ℕ). coarsenings n q.stop (rows_at w l) (weights_at w l)) e ∙ coarsen-last q.stop (rows_at w l) (weights_at w l)) g
 
   module _ (m : ℕ) (e : left ≡ suc m) where
-    pub solved-small : (w₂ : List ℕ) (a : Answer) → l.vertices ≤ q.stop → LevelGrown w w₂ l q a → LevelSolved w w₂ l q left a
+    pub solved-small : (w₂ : List ℕ) (a : Result AbtmMultilevelStats Refusal) → l.vertices ≤ q.stop → LevelGrown w w₂ l q a → LevelSolved w w₂ l q left a
     solved-small w₂ a h g =
         let n = all-vertices p.ready in
         uncoarsened w w₂ a same-slice
         (ap (λ (n : ℕ). coarsenings n q.stop (rows_at w l) (weights_at w l)) e ∙ coarsen-small q.stop (rows_at w l) (weights_at w l) m (omega (arith, n))) g
 
     pub solved-same
-        : (w₁ w₂ : List ℕ) (a : Answer)
+        : (w₁ w₂ : List ℕ) (a : Result AbtmMultilevelStats Refusal)
         → q.stop < l.vertices
         → l.vertices ≤ length (step_of w l).weights
         → Kept l.fine_to_coarse (length w) w₁ w
@@ -144,7 +151,7 @@ module _ (w : List ℕ) (l : HierarchyLevel) (q : Rules) (left : ℕ) (p : Place
         }
 
     -- a step was made
-    module _ (w₁ : List ℕ) (a₁ : Coarsened) (c : CoarsenedOnce w w₁ l up q.scratch a₁) where
+    module _ (w₁ : List ℕ) (a₁ : Option Smaller) (c : CoarsenedOnce w w₁ l up q.scratch a₁) where
       pub step_kept : Kept l.fine_to_coarse (length w) w₁ w
       step_kept = kept-all l.fine_to_coarse (q.scratch + 3 * l.vertices) w₁ w c.kept (omega (arith, p.room))
 
@@ -183,7 +190,7 @@ module _ (w : List ℕ) (l : HierarchyLevel) (q : Rules) (left : ℕ) (p : Place
           next-above = omega (arith, p.above, rooms left q.unit, rooms m q.unit, ap (λ (n : ℕ). n * q.unit) e, suc-mul m q.unit)
 
       -- the coarser level was solved
-      module _ (w₂ : List ℕ) (a₂ : Answer) (s : LevelSolved w₁ w₂ coarse q m a₂) where
+      module _ (w₂ : List ℕ) (a₂ : Result AbtmMultilevelStats Refusal) (s : LevelSolved w₁ w₂ coarse q m a₂) where
         solved-kept : Kept l.fine_to_coarse (length w) w₂ w
         solved-kept =
             kept_trans l.fine_to_coarse (length w) w₂ w₁ w
@@ -209,17 +216,17 @@ module _ (w : List ℕ) (l : HierarchyLevel) (q : Rules) (left : ℕ) (p : Place
               ∙ coarsen-more q.stop (rows_at w l) (weights_at w l) m (omega (arith, n)) (omega (arith, n, r))
 
           -- it was refused
-          pub solved-refused : (number : ℕ) → a₂ ≡ Refused number → LevelSolved w w₂ l q left (Refused number)
-          solved-refused number r =
+          pub solved-refused : (x : Refusal) → a₂ ≡ Err x → LevelSolved w w₂ l q left (Err x)
+          solved-refused x r =
               record {
                 told =
                     rw (steps-are, e)
-                    (finer-refused (balance_in q.limits) q.passes (rows_at w l) (weights_at w l) (step_of w l) (coarsenings m q.stop (step_of w l).rows (step_of w l).weights) m (owners_at w₂ coarse) (owners_at w₂ l) number (rw r at told-step));
+                    (finer-refused (balance_in q.limits) q.passes (rows_at w l) (weights_at w l) (step_of w l) (coarsenings m q.stop (step_of w l).rows (step_of w l).weights) m (owners_at w₂ coarse) (owners_at w₂ l) x (rw r at told-step));
                 kept = solved-kept;
               }
 
           -- it has owners, which l takes over
-          module _ (t : AbtmMultilevelStats) (r : a₂ ≡ Divided t) where
+          module _ (t : AbtmMultilevelStats) (r : a₂ ≡ Ok t) where
             length-coarse : length (owners_at w₂ coarse) ≡ length (step_of w l).weights
             length-coarse =
                 length_part w₂ coarse.owners (coarse.owners + coarse.vertices) (omega arith)
@@ -276,14 +283,14 @@ module _ (w : List ℕ) (l : HierarchyLevel) (q : Rules) (left : ℕ) (p : Place
                 weights-same : weights_at w₃ l ≡ weights_at w l
                 weights-same = placed-weights w l q left p w₃ l.fine_to_coarse (length w) below-map taken-kept
 
-                pub solved-finer : (a : Answer) → LevelRefined w₃ w₄ l q t' a → LevelSolved w w₄ l q left a
+                pub solved-finer : (a : Result AbtmMultilevelStats Refusal) → LevelRefined w₃ w₄ l q t' a → LevelSolved w w₄ l q left a
                 solved-finer a x =
                     let b = balance_in q.limits in
                     let rows = rows_at w l in
                     let ws = weights_at w l in
                     let number = from_owners q.limits.ranks (moved_from b q.passes rows ws (owners_at w₃ l)) in
                     let moves = length (moves_from b q.passes rows ws (owners_at w₃ l)) in
-                    let answer : a ≡ answer_for number (added_moves t' moves) = rw (rows_same, weights-same) at x.answer-is in
+                    let answer : AnswerFor number (added_moves t' moves) a = rw (rows_same, weights-same) at x.answer-is in
                     let owners : owners_at w₄ l ≡ moved_from b q.passes rows ws (owners_at w₃ l) = rw (rows_same, weights-same) at x.owners-are in
                     let few : moves ≤ 131072 = rw (rows_same, weights-same) at x.few in
                     let counted = coarse-counted rows ws in
@@ -292,14 +299,14 @@ module _ (w : List ℕ) (l : HierarchyLevel) (q : Rules) (left : ℕ) (p : Place
                     record {
                       told = split (eqb number 0)
                           (λ y.
-                          let da : a ≡ Divided (added_moves (added_pairs t (step_of w l).pairs (step_of w l).singletons) moves) =
-                          answer ∙ rw y (ap (λ (z : AbtmMultilevelStats). Divided (added_moves z moves)) et) in
+                          let da : a ≡ Ok (added_moves (added_pairs t (step_of w l).pairs (step_of w l).singletons) moves) =
+                          answer.stats (eqb-true number 0 y) ∙ ap (λ (z : AbtmMultilevelStats). Ok (added_moves z moves)) et in
                           rw (steps-are, e, da)
                           (finer-moved b q.passes rows ws (step_of w l) rest m (owners_at w₂ coarse) t (rw r at told-step) (owners_at w₃ l) taken-from (owners_at w₄ l) moves (eqb-true number 0 y) owners refl few hl (omega (arith, counted)) (omega (arith, counted))))
                           (λ y.
-                          let ra : a ≡ Refused number = answer ∙ rw y in
-                          rw (steps-are, e, ra)
-                          (finer-check b q.passes rows ws (step_of w l) rest m (owners_at w₂ coarse) t (rw r at told-step) (owners_at w₃ l) taken-from (owners_at w₄ l) number refl (eqb-false number 0 y)));
+                          let ra = refused-as number (added_moves t' moves) a answer (eqb-false number 0 y) in
+                          rw (steps-are, e, ra.1)
+                          (finer-check b q.passes rows ws (step_of w l) rest m (owners_at w₂ coarse) t (rw r at told-step) (owners_at w₃ l) taken-from (owners_at w₄ l) ra.0 ra.2));
                       kept =
                           kept_trans l.fine_to_coarse (length w) w₄ w₃ w
                           (kept-wide l.owners (length w₃) l.fine_to_coarse (length w) w₄ w₃ below-owners (omega (arith, taken-kept.same_length)) x.kept) taken-kept;

@@ -22,8 +22,11 @@ use Rattle.multilevel.specs.Division.{Outcome, refused, divided, Trace, coarseni
 use Rattle.multilevel.specs.Demand3.{site_rows, balance_of, passes_of, kept_steps, WithoutGrowth}
 use Rattle.multilevel.specs.Stuck.{ceiling, least_imbalance, Tight, least_of, NoStep, Plain, StuckExactly, Accepted}
 use Rattle.multilevel.specs.Sites.{site, P5}
-use Rattle.multilevel.specs.Contract.{answer_number, outcome_number, Partitioned}
-use Rattle.multilevel.specs.declared.driver.Answer.{Answer}
+use Rattle.multilevel.specs.Contract.{outcome_number, Partitioned}
+use Rattle.std.specs.Prelude.{Result}
+use Rattle.links.specs.Refusals.{number_of}
+use Rattle.links.specs.declared.refusal.Refusal.{Refusal}
+use Rattle.links.specs.declared.options.AbtmMultilevelStats.{AbtmMultilevelStats}
 use Rattle.links.proofs.ListLaws.{split, sum_ones}
 use Rattle.links.proofs.RowLaws.{length-rows}
 use Rattle.stages.proofs.StuckLaws.{ones-light, growth-stuck}
@@ -189,10 +192,10 @@ outcome-8 (divided owners s) = (λ e. absurd (omega arith), λ e. absurd (let z 
 
 -- the same of the call, from its own promise
 pub answers-stuck
-    : {c : Call} {owners owners' work work' : List ℕ} {answer : Answer}
+    : {c : Call} {owners owners' work work' : List ℕ} {answer : Result AbtmMultilevelStats Refusal}
     → Partitioned c owners owners' work work' answer
     → Plain c
-    → (answer_number answer ≡ 8) ↔ Tight c
+    → (number_of answer ≡ 8) ↔ Tight c
 answers-stuck {c} promise p = rw promise.number_is (Iff.trans (outcome-8 (division c).outcome) (exactly c p))
 
 -- ---- "the path of five at t 199 and 200 shows both sides"

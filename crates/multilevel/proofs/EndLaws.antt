@@ -22,8 +22,8 @@ use Rattle.stages.specs.declared.level.HierarchyLevel.{HierarchyLevel}
 use Rattle.stages.proofs.LevelLaws.{all-vertices, rows-kept, length-neighbors}
 use Rattle.stages.proofs.StepLaws.{swaps-few}
 use Rattle.stages.proofs.CutLaws.{cut-entries, list-entries}
-use Rattle.multilevel.specs.declared.driver.Answer.{Answer}
-use Rattle.multilevel.specs.declared.driver.Answer.TheVariants.{Divided, Refused}
+use Rattle.std.specs.Prelude.{Result, Ok, Err}
+use Rattle.links.specs.declared.refusal.Refusal.{Refusal}
 use Rattle.multilevel.specs.declared.driver.Rules.{Rules}
 use Rattle.multilevel.specs.declared.measure.Measures.{Measures}
 use Rattle.multilevel.specs.Causes.{Call, Limited, need_of, early_cause}
@@ -32,7 +32,7 @@ use Rattle.multilevel.specs.Demand3.{site_rows, balance_of, kept_steps}
 use Rattle.multilevel.specs.Room.{SiteFits, SiteLaid}
 use Rattle.multilevel.specs.Measure.{Measurable, Measured}
 use Rattle.multilevel.specs.Driver.{solved, finest_swaps, Told}
-use Rattle.multilevel.specs.Contract.{answer_number, answer_of, owners_after, Partitioned}
+use Rattle.multilevel.specs.Contract.{owners_after, Partitioned}
 use Rattle.multilevel.specs.DriverCode.{Placed, LevelSolved, Finishing, LevelFinished, rules_for, site_level, Divisible, SiteDivided}
 use Rattle.multilevel.proofs.DivisionLaws.{tested}
 use Rattle.multilevel.proofs.SolveLaws.{divided-of, told-ranked}
@@ -114,19 +114,19 @@ module _ (c : Call) (w : List ℕ) (d : Divisible c w) where
       pub code-site : Placed w₁ l q c.options.max_levels × (c.options.max_levels ≤ 32)
       code-site = (rw (el, eq) (site-placed c w d w₁ laid), (tested c d.passed).few-levels)
 
-      module _ (w₂ : List ℕ) (a : Answer) (k : LevelSolved w₁ w₂ l q c.options.max_levels a) where
+      module _ (w₂ : List ℕ) (a : Result AbtmMultilevelStats Refusal) (k : LevelSolved w₁ w₂ l q c.options.max_levels a) where
         above : LevelSolved w₁ w₂ (site_level c) (rules_for c) c.options.max_levels a
         above = rw (el, eq) at k
 
         told : Told (balance_of c) c.options.refinement_passes (site_rows c) c.workloads (kept_steps c) c.options.max_levels (owners_at w₂ (site_level c)) a
         told = site-told c w d w₁ laid w₂ a above
 
-        pub code-refusal : (owners : List ℕ) (n number : ℕ) → a ≡ Refused n → number ≡ answer_number a → SiteDivided c owners owners (Refused number)
-        code-refusal owners n number e k =
-            let out = finish-refused c d.passed c.options.max_levels (owners_at w₂ (site_level c)) n (rw e at told) in
-            record { answer-is = rw (out, k, e); owners-are = rw out }
+        pub code-refusal : (owners : List ℕ) (x : Refusal) → a ≡ Err x → SiteDivided c owners owners (Err x)
+        code-refusal owners x e =
+            let out = finish-refused c d.passed c.options.max_levels (owners_at w₂ (site_level c)) x (rw e at told) in
+            record { answer-is = rw out (x, refl, refl); owners-are = rw out }
 
-        module _ (t : AbtmMultilevelStats) (r : a ≡ Divided t) where
+        module _ (t : AbtmMultilevelStats) (r : a ≡ Ok t) where
           placed₂ : Placed w₂ (site_level c) (rules_for c) c.options.max_levels
           placed₂ =
               placed-kept w₁ (site_level c) (rules_for c) c.options.max_levels (site-placed c w d w₁ laid) w₂ (site_level c).fine_to_coarse (length w₁)
@@ -186,7 +186,7 @@ module _ (c : Call) (w : List ℕ) (d : Divisible c w) where
                 ∙ ap (λ (x : List ℕ). (refine_fine_pair_swaps b (site_rows c) x n sw (owners_at w₂ (site_level c))).steps) weights₂
                 ∙ ap (λ (x : List ℕ). (refine_fine_pair_swaps b (site_rows c) c.workloads n sw x).steps) (told.owners-are z)
 
-            pub code-divided : (owners owners' : List ℕ) → owners' ≡ owners_at w₃ l ++ drop l.vertices owners → SiteDivided c owners owners' (Divided t')
+            pub code-divided : (owners owners' : List ℕ) → owners' ≡ owners_at w₃ l ++ drop l.vertices owners → SiteDivided c owners owners' (Ok t')
             code-divided owners owners' eo =
                 let o₂ = owners_at w₂ (site_level c) in
                 let o₃ = owners_at w₃ (site_level c) in
@@ -198,7 +198,7 @@ module _ (c : Call) (w : List ℕ) (d : Divisible c w) where
                 let n : length o₃ ≡ (site_level c).vertices =
                 length_part w₃ (site_level c).owners ((site_level c).owners + (site_level c).vertices) (omega arith) (omega (arith, placed₂.ready.laid, placed₂.ready.inside, end.same_length)) ∙ omega arith in
                 record {
-                  answer-is = rw out (ap Divided stats);
+                  answer-is = rw out (ap Ok stats);
                   owners-are = rw (out, n) (rw el at eo);
                 }
 
@@ -214,28 +214,27 @@ module _ (c : Call) (z : early_cause c ≡ 0) where
     pub whole-fits : need ≤ length work
     whole-fits = omega (arith, (tested c z).work-fits)
 
-    part_length : length (take (need - 0) work) ≡ need_of c
-    part_length = length-take-le (need - 0) work (omega (arith, whole-fits)) ∙ omega arith
+    pub part_length : length (take need work) ≡ need_of c
+    part_length = length-take-le need work (omega (arith, whole-fits)) ∙ omega arith
 
-    pub whole-divisible : Divisible (with_work c (length (take (need - 0) work))) (take (need - 0) work)
+    pub whole-divisible : Divisible (with_work c (length (take need work))) (take need work)
     whole-divisible = rw part_length (record { passed = exact-passes c z; exact = part_length })
 
-    whole-given-back : (x : List ℕ) → length x ≡ length (take (need - 0) work) → need ≤ length (x ++ drop (need - 0) work)
-    whole-given-back x e = omega (arith, e ∙ part_length, length-append x (drop (need - 0) work))
+    whole-given-back : (x : List ℕ) → length x ≡ length (take need work) → need ≤ length (x ++ drop need work)
+    whole-given-back x e = omega (arith, e ∙ part_length, length-append x (drop need work))
 
     -- work is zeroed, and what is beyond it untouched
-    pub whole-zeroed : (x : List ℕ) → length x ≡ length (take (need - 0) work) → filled_part (x ++ drop (need - 0) work) 0 need 0 ≡ replicate (need_of c) 0 ++ drop (need_of c) work
+    pub whole-zeroed : (x : List ℕ) → length x ≡ length (take need work) → filled_part (x ++ drop need work) 0 need 0 ≡ replicate (need_of c) 0 ++ drop (need_of c) work
     whole-zeroed x e =
         let n : need - 0 ≡ need_of c = omega arith in
         let m : length x ≡ need_of c = e ∙ part_length in
-        filled_is (x ++ drop (need - 0) work) 0 need 0 (omega arith) (whole-given-back x e) ∙ rw (n, drop_at x (drop (need_of c) work) (need_of c) m)
+        filled_is (x ++ drop need work) 0 need 0 (omega arith) (whole-given-back x e) ∙ rw (n, en, drop_at x (drop (need_of c) work) (need_of c) m)
 
     pub whole-partitioned
-        : (owners owners' work' : List ℕ) (a : Answer)
+        : (owners owners' work' : List ℕ) (a : Result AbtmMultilevelStats Refusal)
         → work' ≡ replicate (need_of c) 0 ++ drop (need_of c) work
-        → SiteDivided (with_work c (length (take (need - 0) work))) owners owners' a
+        → SiteDivided (with_work c (length (take need work))) owners owners' a
         → Partitioned c owners owners' work work' a
     whole-partitioned owners owners' work' a ew s =
-        let out : (division (with_work c (length (take (need - 0) work)))).outcome ≡ (division c).outcome = rw part_length (same-run c z) in
-        rw (s.answer-is ∙ ap answer_of out)
-        (partitioned-with c owners owners' work work' (division c).outcome z refl (s.owners-are ∙ ap (λ (o : Outcome). owners_after o owners) out) ew)
+        let out : (division (with_work c (length (take need work)))).outcome ≡ (division c).outcome = rw part_length (same-run c z) in
+        partitioned-with c owners owners' work work' (division c).outcome a z refl (rw out at s.answer-is) (s.owners-are ∙ ap (λ (o : Outcome). owners_after o owners) out) ew

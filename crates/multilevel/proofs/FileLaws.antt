@@ -1,48 +1,18 @@
 -- Laws of the link file's tests, each as the code meets it. Assumes nothing.
-use Prim.Native.Nat.{ℕ, ◌+◌, ◌-◌, ◌≤◌, ◌<◌}
-use mathlib.Core.Path.{◌≡◌, refl, sym, ◌∙◌}
+use Prim.Native.Nat.{ℕ, ◌-◌, ◌≤◌, ◌<◌}
+use mathlib.Core.Path.{◌≡◌, refl, sym}
 use mathlib.Core.Bool.{Bool, true, false, ◌&&◌, ◌||◌, cond}
 use mathlib.Core.List.{List}
 use native.Mathlib.Omega.{arith}
 use lib.ListN.{length}
-use lib.Dec.{ltb, eqb}
-use borrow.Author.Tests.{ltb-false, lt-ltb, le-ltb, eq-eqb, ne_eqb}
+use lib.Dec.{ltb}
+use borrow.Author.Tests.{ltb-false, lt-ltb, le-ltb}
 use Rattle.links.specs.Lists.{any, all, range}
 use Rattle.links.specs.Options.{bad_list_length, bad_swaps}
 use Rattle.links.specs.Workloads.{bad_workload, bad_workloads}
-use Rattle.links.proofs.ListLaws.{split, and_l, and_r, or_l, or_r, any-range, to-any, elem-range}
-use Rattle.multilevel.specs.File.{number, sizes_of, low_end, high_end, link_before, good_link, good_links, vertex_count_of, link_count_of, over_program_limits, good_length, file_workloads, is_end, lone_in, has_lone, file_cause, Sized}
+use Rattle.links.proofs.ListLaws.{split, and_l, and_r, or_l, or_r}
+use Rattle.multilevel.specs.File.{number, sizes_of, good_links, vertex_count_of, link_count_of, over_program_limits, good_length, file_workloads, lone_in, has_lone, file_cause, Sized}
 use Rattle.multilevel.proofs.FileWorkloadLaws.{workloads-told, links-within}
-
-module _ (b : List ℕ) (i j x y : ℕ) (ex : x ≡ low_end b i) (ey : y ≡ low_end b j) where
-  pub before-lower : x < y → true ≡ link_before b i j
-  unfolding link_before
-  before-lower h = rw (lt-ltb (low_end b i) (low_end b j) (omega arith))
-
-  pub before_same : y ≡ x → (z w : ℕ) → z ≡ high_end b i → w ≡ high_end b j → ltb z w ≡ link_before b i j
-  unfolding link_before
-  before_same e z w ez ew = rw (le-ltb (low_end b i) (low_end b j) (omega arith), eq-eqb (low_end b j) (low_end b i) (omega arith), ez, ew)
-
-  pub before-higher : y ≤ x → (y ≡ x → ⊥) → false ≡ link_before b i j
-  unfolding link_before
-  before-higher h e = rw (le-ltb (low_end b i) (low_end b j) (omega arith), ne_eqb (low_end b j) (low_end b i) (λ z. e (ey ∙ z ∙ sym ex)))
-
-module _ (b : List ℕ) (i n x y : ℕ) (en : n ≡ vertex_count_of b) (ex : x ≡ low_end b i) (ey : y ≡ high_end b i) where
-  pub link-turned : y ≤ x → false ≡ good_link b i
-  unfolding good_link
-  link-turned h = rw (le-ltb (low_end b i) (high_end b i) (omega arith))
-
-  pub link-beyond : x < y → n ≤ y → false ≡ good_link b i
-  unfolding good_link
-  link-beyond h k = rw (lt-ltb (low_end b i) (high_end b i) (omega arith), le-ltb (high_end b i) (vertex_count_of b) (omega arith))
-
-  pub link-first : x < y → y < n → i ≡ 0 → true ≡ good_link b i
-  unfolding good_link
-  link-first h k e = rw (lt-ltb (low_end b i) (high_end b i) (omega arith), lt-ltb (high_end b i) (vertex_count_of b) (omega arith), eq-eqb i 0 e)
-
-  pub link-later : x < y → y < n → (i ≡ 0 → ⊥) → (r : Bool) → r ≡ link_before b (i - 1) i → r ≡ good_link b i
-  unfolding good_link
-  link-later h k e r q = rw (lt-ltb (low_end b i) (high_end b i) (omega arith), lt-ltb (high_end b i) (vertex_count_of b) (omega arith), ne_eqb i 0 e) q
 
 -- a test of all links, as a loop over them meets it first
 pub every-link : (b : List ℕ) (e : ℕ) → Sized b e → (p : ℕ → Bool) → all p (range 0 (e - 0)) ≡ all p (range 0 (link_count_of b))
@@ -50,42 +20,14 @@ every-link b e s p = let z : e - 0 ≡ link_count_of b = omega (arith, s.links) 
 
 -- ---- lone vertices
 
-module _ (b : List ℕ) (v i x : ℕ) (ex : x ≡ low_end b i) where
-  pub end_low : x ≡ v → true ≡ is_end b v i
-  unfolding is_end
-  end_low e = rw (eq-eqb (low_end b i) v (sym ex ∙ e))
-
-  pub end-high : (x ≡ v → ⊥) → (y : ℕ) → y ≡ high_end b i → eqb y v ≡ is_end b v i
-  unfolding is_end
-  end-high d y ey = rw (ne_eqb (low_end b i) v (λ q. d (ex ∙ q)), ey)
-
--- the vertices gone through from the last down
-pub lone-next
-    : (b : List ℕ) (n v : ℕ)
-    → 0 < v
-    → v ≤ n
-    → any (lone_in b) (range v (n - v)) ≡ false
-    → lone_in b (v - 1) ≡ false
-    → any (lone_in b) (range (v - 1) (n - (v - 1))) ≡ false
-lone-next b n v p k s f = let z : (v - 1) + 1 ≡ v = omega arith in any-range (lone_in b) (v - 1) n (omega arith) ∙ rw (f, z) s
-
 module _ (b : List ℕ) (n : ℕ) (e : n ≡ vertex_count_of b) where
   pub lone-few : n < 2 → false ≡ has_lone b
   unfolding has_lone
   lone-few h = rw (le-ltb 1 (vertex_count_of b) (omega arith))
 
-  module _ (h : 2 ≤ n) where
-    pub lone-found : (v : ℕ) → v < n → lone_in b v ≡ true → true ≡ has_lone b
-    unfolding has_lone
-    lone-found v k l =
-        rw (lt-ltb 1 (vertex_count_of b) (omega arith))
-        (sym (to-any (lone_in b) (range 0 (vertex_count_of b)) v (elem-range v 0 (vertex_count_of b) (omega arith) (omega arith)) l))
-
-    pub lone-none : (v : ℕ) → v ≡ 0 → any (lone_in b) (range v (n - v)) ≡ false → false ≡ has_lone b
-    unfolding has_lone
-    lone-none v p s =
-        let z : n - v ≡ vertex_count_of b = omega arith in
-        rw (lt-ltb 1 (vertex_count_of b) (omega arith)) (sym (rw (z, p) at s))
+  pub lone-many : 2 ≤ n → any (lone_in b) (range 0 n) ≡ has_lone b
+  unfolding has_lone
+  lone-many h = rw (lt-ltb 1 (vertex_count_of b) (omega arith), e)
 
 -- ---- the check's answers
 

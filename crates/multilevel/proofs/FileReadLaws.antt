@@ -9,7 +9,11 @@ use lib.Dec.{ltb, eqb}
 use borrow.Author.Tests.{lt-ltb, le-ltb, eq-eqb, ne_eqb, eqb-true, eqb-false, ltb-false}
 use Rattle.links.proofs.ListLaws.{split, or_l, or_r}
 use Rattle.multilevel.specs.File.{vertex_count_of, link_count_of, sizes_of, file_workloads, file_cause, reader_cause, FileRead, RowsWritten}
-use Rattle.multilevel.specs.declared.file.Read.TheVariants.{Site, Refused}
+use Rattle.std.specs.Prelude.{Result, Ok, Err}
+use Rattle.links.specs.Refusals.{refusal_number}
+use Rattle.links.specs.declared.refusal.Refusal.{Refusal}
+use Rattle.links.proofs.RefusalLaws.{refusal-some}
+use Rattle.multilevel.specs.declared.file.Sizes.{Sizes}
 use Rattle.multilevel.proofs.FileLaws.{Accepted, accepted}
 use Rattle.multilevel.proofs.FileRowLaws.{file-lists, linked-rows}
 
@@ -67,16 +71,17 @@ module _ (b : List ℕ) (o s w : ℕ) where
 
 module _ (b o s w : List ℕ) where
   -- a refusal leaves all as it was
-  pub read-bad : (x : ℕ) → x ≡ reader_cause b (length o) (length s) (length w) → (x ≡ 0 → ⊥) → FileRead b o s w o s w (Refused x)
-  read-bad x e d =
-      record {
-        answer = rw (← e, ne_eqb x 0 d);
-        number = e;
-        sizes = rw (← e, ne_eqb x 0 d);
+  pub read-bad : (r : Result Sizes Refusal) (e : Refusal) → r ≡ Err e → refusal_number e ≡ reader_cause b (length o) (length s) (length w) → FileRead b o s w o s w r
+  read-bad r e is number =
+      let d : reader_cause b (length o) (length s) (length w) ≡ 0 → ⊥ = λ z. refusal-some e (number ∙ z) in
+      rw is record {
+        answer = λ z. absurd (d z);
+        number = number;
+        sizes = rw (ne_eqb _ 0 d);
         refused = λ n. (refl, refl, refl);
-        offsets-written = λ z. absurd (d (e ∙ z));
-        neighbors-written = λ z. absurd (d (e ∙ z));
-        workloads-written = λ z. absurd (d (e ∙ z));
+        offsets-written = λ z. absurd (d z);
+        neighbors-written = λ z. absurd (d z);
+        workloads-written = λ z. absurd (d z);
         sound = λ z. file-lists b (accepted b z).links;
         workloads-pass = λ z. (accepted b z).workloads;
         linked = λ z. linked-rows b (accepted b z).links (accepted b z).linked;
@@ -88,10 +93,10 @@ module _ (b o s w : List ℕ) where
       → RowsWritten b o s o' s'
       → (w' : List ℕ)
       → w' ≡ file_workloads b ++ drop (vertex_count_of b) w
-      → FileRead b o s w o' s' w' (Site (sizes_of b))
+      → FileRead b o s w o' s' w' (Ok (sizes_of b))
   read_all e o' s' rows w' ws =
       record {
-        answer = rw e;
+        answer = λ z. refl;
         number = sym e;
         sizes = rw e;
         refused = λ n. absurd (n e);

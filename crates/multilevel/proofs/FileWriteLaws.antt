@@ -6,8 +6,8 @@ use mathlib.Core.List.{List, [], ◌∷◌, ◌++◌, append-nil}
 use native.Mathlib.Omega.{arith}
 use native.Mathlib.Nat.{zero-add}
 use native.Mathlib.Numerals.{add-one}
-use lib.ListN.{length, take, drop, set, length-append, length-drop}
-use lib.Seq.{sets, length-sets, sets-eq, take-suc, length-take-le, take_all, drop-set-lt}
+use lib.ListN.{length, take, drop, set, length-append}
+use lib.Seq.{sets, length-sets, sets-eq, take-suc, take_all, drop-set-lt}
 use borrow.Author.Tests.{eq-eqb, ne_eqb}
 use Rattle.links.specs.Lists.{at}
 use Rattle.links.specs.Graph.{row, offsets_from, packed}
@@ -95,10 +95,6 @@ row-start b v from s = written_none [] from s refl
 
 -- of f the first i numbers are written over o
 module _ (f o o' : List ℕ) (i : ℕ) (w : o' ≡ take i f ++ drop i o) where
-  pub front_length : i ≤ length f → i ≤ length o → length o' ≡ length o
-  front_length h k =
-      ap length w ∙ length-append (take i f) (drop i o) ∙ omega (arith, length-take-le i f h, length-drop i o)
-
   pub front-next : (x : ℕ) → i < length f → i < length o → x ≡ at f i → set o' i x ≡ take (suc i) f ++ drop (suc i) o
   front-next x h k e = rw (w, e) (rw add-one at (copy_more f o i h k))
 
@@ -167,10 +163,6 @@ module _ (b : List ℕ) (g : good_links b ≡ true) (o o' s s' : List ℕ) (m v 
           neighbors-so-far = more;
           offsets-so-far = front-next (file_offsets b) o o' (suc v) w.offsets-so-far r f k x;
         })
-
-  pub rowing-offsets : v < length o → v ≤ vertex_count_of b → length o' ≡ length o
-  rowing-offsets h k =
-      front_length (file_offsets b) o o' (suc v) w.offsets-so-far (omega (arith, length-offsets 0 (file_rows b), length-file b g)) (omega arith)
 
 pub rowing-end
     : (b : List ℕ) (g : good_links b ≡ true) (o o' s s' : List ℕ) (m v : ℕ)

@@ -12,12 +12,15 @@ use Rattle.links.specs.Graph.{cut_entries, volume}
 use Rattle.links.specs.Options.{added_moves, measured_stats}
 use Rattle.links.specs.declared.options.AbtmMultilevelStats.{AbtmMultilevelStats}
 use Rattle.stages.specs.Moves.{after}
-use Rattle.multilevel.specs.declared.driver.Answer.TheVariants.{Divided, Refused}
+use Rattle.std.specs.Prelude.{Result, Ok, Err}
+use Rattle.links.specs.Refusals.{refusal_number, number_of}
+use Rattle.links.specs.declared.refusal.Refusal.{Refusal}
+use Rattle.links.proofs.RefusalLaws.{refusal-some}
 use Rattle.multilevel.specs.Causes.{Call, need_of, early_cause}
 use Rattle.multilevel.specs.Division.{Outcome, refused, divided, Trace, solve, stats_of, swapping_of, abtm_multilevel_partition, division}
 use Rattle.multilevel.specs.Demand3.{site_rows, balance_of, kept_steps}
 use Rattle.multilevel.specs.Driver.{solved, finest_swaps, step_count, stats_so_far, Told}
-use Rattle.multilevel.specs.Contract.{answer_of, answer_number, answer_stats, outcome_number, outcome_stats, owners_after, work_after, Partitioned}
+use Rattle.multilevel.specs.Contract.{Answers, answer_stats, outcome_number, outcome_stats, owners_after, work_after, Partitioned}
 use Rattle.multilevel.proofs.DriverLaws.{Swapped, solve-swapped, stats-swapped, stats-done}
 use Rattle.multilevel.proofs.SolveLaws.{divided-of, refused-of}
 use Rattle.multilevel.proofs.Demand3Laws.{demand3}
@@ -45,17 +48,17 @@ module _ (c : Call) (z : early_cause c ≡ 0) where
   swaps-last = solve-swapped (balance_of c) passes rows weights (swapping_of c.options) (kept_steps c)
 
   pub finish-refused
-      : (left : ℕ) (o : List ℕ) (number : ℕ)
-      → Told (balance_of c) passes rows weights (kept_steps c) left o (Refused number)
-      → (division c).outcome ≡ refused number
-  finish-refused left o number k =
+      : (left : ℕ) (o : List ℕ) (x : Refusal)
+      → Told (balance_of c) passes rows weights (kept_steps c) left o (Err x)
+      → (division c).outcome ≡ refused (refusal_number x)
+  finish-refused left o x k =
       let t = solved (balance_of c) passes rows weights (kept_steps c) in
-      let r = refused-of t.refusal (stats_so_far rows (kept_steps c) t) number k.answer-is in
+      let r = refused-of t.refusal (stats_so_far rows (kept_steps c) t) x k.answer-is in
       outcome-is ∙ rw (swaps-last.refusal_is, ne_eqb t.refusal 0 r.1, r.0)
 
   pub finish-divided
       : (left : ℕ) (o o' : List ℕ) (s : AbtmMultilevelStats) (m cut vol : ℕ)
-      → Told (balance_of c) passes rows weights (kept_steps c) left o (Divided s)
+      → Told (balance_of c) passes rows weights (kept_steps c) left o (Ok s)
       → left ≤ 32
       → o' ≡ foldl after o (finest_swaps (balance_of c) (swapping_of c.options) rows weights (solved (balance_of c) passes rows weights (kept_steps c)))
       → m ≡ length (finest_swaps (balance_of c) (swapping_of c.options) rows weights (solved (balance_of c) passes rows weights (kept_steps c)))
@@ -82,13 +85,13 @@ module _ (c : Call) (z : early_cause c ≡ 0) where
 
 -- refused before any work
 pub early-refused
-    : (c : Call) (owners work : List ℕ) (number : ℕ) → number ≡ early_cause c → (number ≡ 0 → ⊥) → Partitioned c owners owners work work (Refused number)
+    : (c : Call) (owners work : List ℕ) (x : Refusal) → refusal_number x ≡ early_cause c → Partitioned c owners owners work work (Err x)
 unfolding division work_after
-early-refused c owners work number e d =
-    let p : eqb (early_cause c) 0 ≡ false = ne_eqb (early_cause c) 0 (λ z. d (e ∙ z)) in
-    let out : (division c).outcome ≡ refused number = rw (p, e) in
+early-refused c owners work x e =
+    let p : eqb (early_cause c) 0 ≡ false = ne_eqb (early_cause c) 0 (λ z. refusal-some x (e ∙ z)) in
+    let out : (division c).outcome ≡ refused (refusal_number x) = rw (p, e) in
     record {
-      answer-is = rw out;
+      answer-is = rw out (x, refl, refl);
       number_is = rw out;
       stats-are = rw out;
       owners-are = rw out;
@@ -97,27 +100,28 @@ early-refused c owners work number e d =
     }
 
 pub partitioned-with
-    : (c : Call) (owners owners' work work' : List ℕ) (outcome : Outcome)
+    : (c : Call) (owners owners' work work' : List ℕ) (outcome : Outcome) (a : Result AbtmMultilevelStats Refusal)
     → early_cause c ≡ 0
     → (division c).outcome ≡ outcome
+    → Answers outcome a
     → owners' ≡ owners_after outcome owners
     → work' ≡ replicate (need_of c) 0 ++ drop (need_of c) work
-    → Partitioned c owners owners' work work' (answer_of outcome)
+    → Partitioned c owners owners' work work' a
 unfolding work_after
-partitioned-with c owners owners' work work' outcome z e eo ew =
+partitioned-with c owners owners' work work' outcome a z e answers eo ew =
     record {
-      answer-is = rw e;
-      number_is = numbers outcome ∙ ap outcome_number (sym e);
-      stats-are = stats outcome ∙ ap outcome_stats (sym e);
+      answer-is = rw e answers;
+      number_is = numbers outcome answers ∙ ap outcome_number (sym e);
+      stats-are = stats outcome answers ∙ ap outcome_stats (sym e);
       owners-are = rw e eo;
       work-is = rw (eq-eqb (early_cause c) 0 z) ew;
       demand3 = demand3 c;
     }
   where
-    numbers : (o : Outcome) → answer_number (answer_of o) ≡ outcome_number o
-    numbers (refused n) = refl
-    numbers (divided x s) = refl
+    numbers : (o : Outcome) → Answers o a → number_of a ≡ outcome_number o
+    numbers (refused n) (x, is, number) = ap number_of is ∙ number
+    numbers (divided owners s) is = ap number_of is
 
-    stats : (o : Outcome) → answer_stats (answer_of o) ≡ outcome_stats o
-    stats (refused n) = refl
-    stats (divided x s) = refl
+    stats : (o : Outcome) → Answers o a → answer_stats a ≡ outcome_stats o
+    stats (refused n) (x, is, number) = ap answer_stats is
+    stats (divided owners s) is = ap answer_stats is

@@ -7,10 +7,13 @@ use native.Mathlib.Omega.{arith}
 use lib.ListN.{length}
 use lib.Dec.{eqb}
 use borrow.Author.Tests.{eqb-true, eqb-false}
+use Rattle.std.specs.Prelude.{Result, Ok, Err}
 use Rattle.links.specs.Lists.{All, unassigned, any}
 use Rattle.links.specs.Parts.{Kept}
 use Rattle.links.specs.Owners.{from_owners}
 use Rattle.links.specs.Options.{zero_stats, added_moves, grown_stats}
+use Rattle.links.specs.Refusals.{number_of}
+use Rattle.links.specs.declared.refusal.Refusal.{Refusal}
 use Rattle.links.specs.declared.options.AbtmMultilevelStats.{AbtmMultilevelStats}
 use Rattle.links.proofs.ListLaws.{split}
 use Rattle.links.proofs.RowLaws.{all-place}
@@ -18,32 +21,25 @@ use Rattle.links.proofs.PartLaws.{length_part, kept-wide, kept_trans}
 use Rattle.stages.specs.Seeds.{farthest_seeds}
 use Rattle.stages.specs.Growth.{restart_count}
 use Rattle.stages.specs.Level.{rows_at, weights_at, owners_at, balance_in}
-use Rattle.stages.specs.GrowthCode.{Growable, GrownTold, growth_cause, growth_at, grown_at, grown_answer, grown_number, grown_value}
+use Rattle.stages.specs.GrowthCode.{GrownTold, growth_cause, growth_at, grown_at, grown_value}
 use Rattle.stages.specs.declared.level.HierarchyLevel.{HierarchyLevel}
-use Rattle.stages.specs.declared.growth.Grown.{Grown}
-use Rattle.stages.specs.declared.growth.Grown.TheVariants as grown
 use Rattle.stages.proofs.LevelLaws.{all-vertices}
 use Rattle.stages.proofs.GrowthLaws.{length-seeds}
 use Rattle.stages.proofs.RankLaws.{grown-ranked}
-use Rattle.multilevel.specs.declared.driver.Answer.{Answer}
-use Rattle.multilevel.specs.declared.driver.Answer.TheVariants.{Divided, Refused}
 use Rattle.multilevel.specs.declared.driver.Rules.{Rules}
 use Rattle.multilevel.specs.Division.{grow}
-use Rattle.multilevel.specs.Driver.{moves_from, moved_from, answer_for}
+use Rattle.multilevel.specs.Driver.{moves_from, moved_from, AnswerFor}
 use Rattle.multilevel.specs.DriverCode.{Placed, Refining, LevelRefined, LevelGrown}
-use Rattle.multilevel.proofs.SolveLaws.{Grew, grew, grow-refusal, coarsest-grown, coarsest-check, coarsest-moved}
-use Rattle.multilevel.proofs.PlaceLaws.{placed-ready, placed-rows, placed-weights, placed-kept, kept-all}
+use Rattle.multilevel.proofs.SolveLaws.{refused-as, Grew, grew, grow-refusal, coarsest-grown, coarsest-check, coarsest-moved}
+use Rattle.multilevel.proofs.PlaceLaws.{placed-rows, placed-weights, placed-kept, kept-all}
 
 module _ (w : List ℕ) (l : HierarchyLevel) (q : Rules) (p : Placed w l q 0) where
-  pub growable : Growable w l q.scratch q.limits.ranks
-  growable = record { level = placed-ready w l q 0 p; few-ranks = p.few-ranks; room = omega (arith, p.room) }
-
   -- the stage's cause is the division's
   cause-is : growth_cause w l q.limits.ranks q.limits.cap ≡ (grow (balance_in q.limits) q.passes (rows_at w l) (weights_at w l)).refusal
   unfolding growth_cause
   cause-is = sym (grow-refusal (balance_in q.limits) q.passes (rows_at w l) (weights_at w l))
 
-  module _ (w₁ : List ℕ) (r : Grown) (t : GrownTold w w₁ l q.scratch q.limits.ranks q.limits.cap r) where
+  module _ (w₁ : List ℕ) (r : Result ℕ Refusal) (t : GrownTold w w₁ l q.scratch q.limits.ranks q.limits.cap r) where
     grown-kept : Kept l.owners (length w) w₁ w
     grown-kept = kept-all l.owners (q.scratch + (3 * l.vertices + 6 * q.limits.ranks)) w₁ w t.kept (omega (arith, p.room))
 
@@ -51,27 +47,18 @@ module _ (w : List ℕ) (l : HierarchyLevel) (q : Rules) (p : Placed w l q 0) wh
     below = omega (arith, p.ready.laid)
 
     -- refused
-    pub level-ungrown : (n number : ℕ) → r ≡ grown.Refused n → number ≡ grown_number r → LevelGrown w w₁ l q (Refused number)
-    level-ungrown n number e k =
-        let cause = growth_cause w l q.limits.ranks q.limits.cap in
-        let same : number ≡ cause = k ∙ t.number in
+    pub level-ungrown : (x : Refusal) → r ≡ Err x → LevelGrown w w₁ l q (Err x)
+    level-ungrown x e =
         record {
           told = λ left.
-              coarsest-grown (balance_in q.limits) q.passes (rows_at w l) (weights_at w l) left (owners_at w₁ l) number (same ∙ cause-is)
-              (λ z. not-zero (sym same ∙ z));
+              coarsest-grown (balance_in q.limits) q.passes (rows_at w l) (weights_at w l) left (owners_at w₁ l) x (sym (ap number_of e) ∙ t.number ∙ cause-is);
           kept = grown-kept;
         }
-      where
-        clash : grown.Refused n ≡ grown_answer 0 (restart_count (growth_at w l q.limits.ranks q.limits.cap).turns) → ⊥
-        clash y = let z : ◌≡◌ {A = ℕ} 0 1 = cc in omega arith
-
-        not-zero : growth_cause w l q.limits.ranks q.limits.cap ≡ 0 → ⊥
-        not-zero z = clash (sym e ∙ t.answer ∙ ap (λ (x : ℕ). grown_answer x (restart_count (growth_at w l q.limits.ranks q.limits.cap).turns)) z)
 
     -- grown
-    module _ (restarts : ℕ) (e : r ≡ grown.Owned restarts) where
+    module _ (restarts : ℕ) (e : r ≡ Ok restarts) where
       zero-cause : growth_cause w l q.limits.ranks q.limits.cap ≡ 0
-      zero-cause = sym t.number ∙ ap grown_number e
+      zero-cause = sym t.number ∙ ap number_of e
 
       zero-grow : (grow (balance_in q.limits) q.passes (rows_at w l) (weights_at w l)).refusal ≡ 0
       zero-grow = sym cause-is ∙ zero-cause
@@ -107,7 +94,7 @@ module _ (w : List ℕ) (l : HierarchyLevel) (q : Rules) (p : Placed w l q 0) wh
 
       -- and its moves are made
       pub level-grown
-          : (w₂ : List ℕ) (s : AbtmMultilevelStats) (a : Answer)
+          : (w₂ : List ℕ) (s : AbtmMultilevelStats) (a : Result AbtmMultilevelStats Refusal)
           → s ≡ grown_stats zero_stats l.vertices restarts
           → LevelRefined w₁ w₂ l q s a
           → LevelGrown w w₂ l q a
@@ -119,7 +106,7 @@ module _ (w : List ℕ) (l : HierarchyLevel) (q : Rules) (p : Placed w l q 0) wh
           let wss : weights_at w₁ l ≡ ws = placed-weights w l q 0 p w₁ l.owners (length w) below grown-kept in
           let number = from_owners q.limits.ranks (moved_from b q.passes rows ws (owners_at w₁ l)) in
           let moves = length (moves_from b q.passes rows ws (owners_at w₁ l)) in
-          let answer : a ≡ answer_for number (added_moves s moves) = rw (rs, wss) at x.answer-is in
+          let answer : AnswerFor number (added_moves s moves) a = rw (rs, wss) at x.answer-is in
           let owners : owners_at w₂ l ≡ moved_from b q.passes rows ws (owners_at w₁ l) = rw (rs, wss) at x.owners-are in
           let few : moves ≤ 131072 = rw (rs, wss) at x.few in
           let n = all-vertices p.ready in
@@ -129,12 +116,12 @@ module _ (w : List ℕ) (l : HierarchyLevel) (q : Rules) (p : Placed w l q 0) wh
           record {
             told = λ left. split (eqb number 0)
                 (λ y.
-                let da : a ≡ Divided (added_moves (grown_stats zero_stats (length rows) restarts) moves) =
-                answer ∙ rw y (ap (λ (z : AbtmMultilevelStats). Divided (added_moves z moves)) (es ∙ ap (λ (z : ℕ). grown_stats zero_stats z restarts) (sym n))) in
+                let da : a ≡ Ok (added_moves (grown_stats zero_stats (length rows) restarts) moves) =
+                answer.stats (eqb-true number 0 y) ∙ ap (λ (z : AbtmMultilevelStats). Ok (added_moves z moves)) (es ∙ ap (λ (z : ℕ). grown_stats zero_stats z restarts) (sym n)) in
                 rw da (coarsest-moved b q.passes rows ws left zero-grow (owners_at w₁ l) from (owners_at w₂ l) restarts moves (eqb-true number 0 y) owners told-restarts refl few))
                 (λ y.
-                let ra : a ≡ Refused number = answer ∙ rw y in
-                rw ra (coarsest-check b q.passes rows ws left zero-grow (owners_at w₁ l) from (owners_at w₂ l) number refl (eqb-false number 0 y)));
+                let ra = refused-as number (added_moves s moves) a answer (eqb-false number 0 y) in
+                rw ra.1 (coarsest-check b q.passes rows ws left zero-grow (owners_at w₁ l) from (owners_at w₂ l) ra.0 ra.2));
             kept =
                 kept_trans l.owners (length w) w₂ w₁ w
                 (kept-wide l.owners (length w₁) l.owners (length w) w₂ w₁ (omega arith) (omega (arith, grown-kept.same_length)) x.kept) grown-kept;

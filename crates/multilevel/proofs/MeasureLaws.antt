@@ -5,7 +5,7 @@ use mathlib.Core.Bool.{Bool, true, false, not, ◌&&◌, ◌||◌, cond}
 use mathlib.Core.List.{List, [], ◌∷◌, map}
 use native.Mathlib.Omega.{arith}
 use lib.ListN.{length, set, take, length-map}
-use lib.Seq.{take_all, get_or-set_same, get_or-set_other}
+use lib.Seq.{get_or-set_same, get_or-set_other}
 use lib.Dec.{eqb}
 use borrow.Author.Tests.{eq-eqb, ne_eqb, eqb-true, eqb-false, not-true, not-false}
 use Rattle.links.specs.Lists.{at, any, range, elem}
@@ -110,9 +110,6 @@ meeting-few w₀ own seen ranks a e home mark w x j m = rw m.counted (met-few ra
 
 -- a rank that is home, or has its mark, or gets it
 module _ (w : List ℕ) (rank home seen mark : ℕ) where
-  pub met-home : rank ≡ home → Met w w rank home seen mark 0
-  met-home e = let z = eq-eqb rank home e in record { marked = rw z; counted = rw z }
-
   module _ (d : rank ≡ home → ⊥) (place : ℕ) (e : place ≡ rank) where
     pub met-marked : at w (seen + place) ≡ mark → Met w w rank home seen mark 0
     met-marked f =
@@ -257,14 +254,6 @@ module _ (w₀ : List ℕ) (own seen ranks a e home mark : ℕ) (p : Legible w�
         split f
         (λ y. rw (t.marked, t.counted, next, y) (meeting-fresh y))
         (λ y. rw (t.marked, t.counted, next, y) (meeting-stale y))
-
-  pub meeting-done : (w : List ℕ) (x i : ℕ) → Meeting w₀ own seen ranks a e home mark w x (i - a) → e ≤ i → RowMet w₀ w own seen ranks a e home mark x
-  meeting-done w x i m h =
-      record {
-        counted = m.counted ∙ ap (λ (bs : List ℕ). length (other_ranks ranks home bs)) (take_all (i - a) (row_owners w₀ own a e) (rw row_sized (omega arith)));
-        marks = m.low;
-        frame = m.frame;
-      }
 
 -- ---- a vertex and its row in the work slice
 

@@ -5,23 +5,22 @@ use mathlib.Core.List.{List}
 use native.Mathlib.Nat.{add-mul}
 use native.Mathlib.Omega.{arith}
 use lib.ListN.{length}
-use lib.Dec.{eqb}
 use borrow.Author.Tests.{eq-eqb}
 use Rattle.links.specs.Parts.{Kept}
 use Rattle.links.specs.Owners.{from_owners}
 use Rattle.links.specs.Options.{added_moves}
 use Rattle.links.specs.declared.options.AbtmMultilevelStats.{AbtmMultilevelStats}
-use Rattle.links.proofs.ListLaws.{split}
 use Rattle.links.proofs.PartLaws.{length_part, kept-wide}
 use Rattle.stages.specs.Level.{rows_at, weights_at, owners_at, Ready, balance_in}
-use Rattle.stages.specs.MovesCode.{refined_number, Refinable, RefinedByCut}
+use Rattle.stages.specs.MovesCode.{RefinedByCut}
 use Rattle.stages.specs.declared.level.HierarchyLevel.{HierarchyLevel}
-use Rattle.stages.specs.declared.moves.Refined.{Refined}
-use Rattle.stages.specs.declared.moves.Refined.TheVariants as refined
+use Rattle.links.proofs.RefusalLaws.{refusal-some}
 use Rattle.stages.proofs.LevelLaws.{all-vertices, rows-kept, weights-kept, ready-kept, length-neighbors, ready_by}
 use Rattle.stages.proofs.StepLaws.{moves-few}
 use Rattle.stages.proofs.CutLaws.{cut-entries, list-entries}
-use Rattle.multilevel.specs.declared.driver.Answer.TheVariants.{Divided, Refused}
+use Rattle.std.specs.Prelude.{Result, Ok, Err}
+use Rattle.links.specs.Refusals.{number_of}
+use Rattle.links.specs.declared.refusal.Refusal.{Refusal}
 use Rattle.multilevel.specs.declared.driver.Rules.{Rules}
 use Rattle.multilevel.specs.Driver.{moves_from, moved_from}
 use Rattle.multilevel.specs.DriverCode.{Placed, Refining, LevelRefined}
@@ -72,15 +71,6 @@ kept-all a e w' w k h = kept-wide a e a (length w) w' w (omega arith) h k
 -- ---- moves
 
 module _ (w : List ℕ) (l : HierarchyLevel) (q : Rules) (p : Refining w l q) where
-  pub refinable : Refinable w l q.scratch q.limits.ranks
-  refinable =
-      record {
-        ready = placed-ready w l q 0 p.placed;
-        room = omega (arith, p.placed.room);
-        few = p.placed.few-ranks;
-        ranked = p.ranked;
-      }
-
   length-owners : length (owners_at w l) ≡ l.vertices
   length-owners = length_part w l.owners (l.owners + l.vertices) (omega arith) (omega (arith, p.placed.ready.laid, p.placed.ready.inside)) ∙ omega arith
 
@@ -97,9 +87,9 @@ module _ (w : List ℕ) (l : HierarchyLevel) (q : Rules) (p : Refining w l q) wh
   -- what `refine_by_cut` answered
   pub level-moved
       : (w' : List ℕ) (s t : AbtmMultilevelStats) (m : ℕ)
-      → RefinedByCut w w' l q.scratch q.limits q.passes (refined.Moved m)
+      → RefinedByCut w w' l q.scratch q.limits q.passes (Ok m)
       → t ≡ added_moves s m
-      → LevelRefined w w' l q s (Divided t)
+      → LevelRefined w w' l q s (Ok t)
   unfolding moves_from moved_from
   level-moved w' s t m r e =
       let number = from_owners q.limits.ranks (moved_from (balance_in q.limits) q.passes (rows_at w l) (weights_at w l) (owners_at w l)) in
@@ -107,26 +97,22 @@ module _ (w : List ℕ) (l : HierarchyLevel) (q : Rules) (p : Refining w l q) wh
       let v : m ≡ length (moves_from (balance_in q.limits) q.passes (rows_at w l) (weights_at w l) (owners_at w l)) = r.value ∙ rw (eq-eqb number 0 z) in
       record {
         owners-are = r.owners;
-        answer-is = rw (eq-eqb number 0 z) (ap Divided (e ∙ ap (added_moves s) v));
+        answer-is = record { number = r.number; stats = λ y. ap Ok (e ∙ ap (added_moves s) v) };
         few = few-moves;
         kept = kept-all l.owners (q.scratch + 2 * q.limits.ranks) w' w r.kept (omega (arith, p.placed.room));
       }
 
   pub level-refused
-      : (w' : List ℕ) (a : Refined) (s : AbtmMultilevelStats) (n number : ℕ)
+      : (w' : List ℕ) (a : Result ℕ Refusal) (s : AbtmMultilevelStats) (x : Refusal)
       → RefinedByCut w w' l q.scratch q.limits q.passes a
-      → a ≡ refined.Refused n
-      → number ≡ refined_number a
-      → LevelRefined w w' l q s (Refused number)
+      → a ≡ Err x
+      → LevelRefined w w' l q s (Err x)
   unfolding moves_from moved_from
-  level-refused w' a s n number r e k =
-      let cause = from_owners q.limits.ranks (moved_from (balance_in q.limits) q.passes (rows_at w l) (weights_at w l) (owners_at w l)) in
+  level-refused w' a s x r e =
+      let number = sym (ap number_of e) ∙ r.number in
       record {
         owners-are = r.owners;
-        answer-is = split (eqb cause 0) (λ y. absurd (clash (length (moves_from (balance_in q.limits) q.passes (rows_at w l) (weights_at w l) (owners_at w l))) (sym e ∙ r.answer ∙ rw y))) (λ y. rw (y, k, r.number));
+        answer-is = record { number = number; stats = λ z. absurd (refusal-some x (number ∙ z)) };
         few = few-moves;
         kept = kept-all l.owners (q.scratch + 2 * q.limits.ranks) w' w r.kept (omega (arith, p.placed.room));
       }
-    where
-      clash : (m : ℕ) → refined.Refused n ≡ refined.Moved m → ⊥
-      clash m y = let z : ◌≡◌ {A = ℕ} 0 1 = cc in omega arith

@@ -12,12 +12,12 @@ use lib.Seq.{ext_get_or, get_or-set_same, get_or-set_other}
 use Rattle.links.specs.Lists.{at}
 use Rattle.links.specs.Parts.{part, Kept}
 use Rattle.links.specs.Graph.{row}
-use Rattle.stages.specs.Level.{offsets_at, neighbors_at, rows_at, weights_at, group_at, owners_at, Laid, Ready}
+use Rattle.stages.specs.Level.{offsets_at, neighbors_at, rows_at, weights_at, group_at, owners_at, Laid, Ready, level_at}
 use Rattle.stages.specs.declared.level.HierarchyLevel.{HierarchyLevel}
 use Rattle.links.proofs.ListLaws.{split}
 use Rattle.links.proofs.RowLaws.{all-place, row_is, offsets-fit}
-use Rattle.links.proofs.PartLaws.{length_part, get_or-part, part-part, kept_refl, kept_set, kept-part-before}
-use Rattle.multilevel.specs.Room.{unit_of, level_at, Stacked, TakenOver}
+use Rattle.links.proofs.PartLaws.{length_part, get_or-part, part-part, kept_set, kept-part-before}
+use Rattle.multilevel.specs.Room.{unit_of, Stacked, TakenOver}
 use Rattle.stages.proofs.LevelLaws.{count-vertices, length-neighbors}
 
 -- ---- parts in their order
@@ -83,9 +83,6 @@ module _ (w : List ℕ) (l : HierarchyLevel) (end : ℕ) (r : Ready w l end) whe
 pub record Taking (w₀ : List ℕ) (n group own from : ℕ) (w : List ℕ) (v : ℕ) : Type 0 where
   pub frame : Kept own (own + n) w w₀
   pub passed : (i : ℕ) → i < v → at w (own + i) ≡ at w₀ (from + at w₀ (group + i))
-
-pub taking-none : (w₀ : List ℕ) (n group own from : ℕ) → Taking w₀ n group own from w₀ 0
-taking-none w₀ n group own from = record { frame = kept_refl own (own + n) w₀; passed = λ i h. absurd (not-suc-le-zero h) }
 
 pub at_map : (f : ℕ → ℕ) (xs : List ℕ) (i : ℕ) → i < length xs → at (map f xs) i ≡ f (at xs i)
 at_map f [] i h = absurd (not-suc-le-zero h)

@@ -1,13 +1,13 @@
 -- Laws of what a level tells, as the driver comes to it: refused so far, after growth and moves, after a take-over and moves. Assumes nothing.
 use Prim.Native.Nat.{ℕ, zero, suc, ◌+◌, ◌*◌, ◌≤◌, ◌<◌}
-use mathlib.Core.Path.{◌≡◌, sym, ap, ◌∙◌}
+use mathlib.Core.Path.{◌≡◌, sym, ap, ◌∙◌, refl}
 use mathlib.Core.Bool.{false, cond}
 use mathlib.Core.List.{List, [], ◌∷◌, map}
 use native.Mathlib.Nat.{zero-add}
 use native.Mathlib.Omega.{arith}
 use lib.ListN.{length}
 use lib.Dec.{ltb, eqb}
-use borrow.Author.Tests.{eq-eqb, ne_eqb, eqb-true, eqb-false}
+use borrow.Author.Tests.{eqb-true, eqb-false}
 use Rattle.links.specs.Lists.{at, unassigned, any, All}
 use Rattle.links.specs.Loads.{Balance}
 use Rattle.links.specs.Owners.{from_owners}
@@ -18,9 +18,12 @@ use Rattle.links.proofs.OwnerLaws.{assigned}
 use Rattle.stages.specs.Coarsen.{Coarse}
 use Rattle.stages.specs.Seeds.{farthest_seeds}
 use Rattle.stages.specs.Growth.{Growth, weighted_multisource, grown, restart_count}
-use Rattle.multilevel.specs.declared.driver.Answer.TheVariants.{Divided, Refused}
+use Rattle.std.specs.Prelude.{Result, Ok, Err}
+use Rattle.links.specs.Refusals.{refusal_number}
+use Rattle.links.specs.declared.refusal.Refusal.{Refusal}
+use Rattle.links.proofs.RefusalLaws.{refusal-some}
 use Rattle.multilevel.specs.Division.{Trace, refine, grow, take_over, no_swapping}
-use Rattle.multilevel.specs.Driver.{solved, moves_from, moved_from, step_count, stats_so_far, answer_for, Told}
+use Rattle.multilevel.specs.Driver.{solved, moves_from, moved_from, step_count, stats_so_far, AnswerFor, Told}
 use Rattle.multilevel.proofs.DriverLaws.{refine-refusal, refine-growth, refine-owners, refine-count, onward, solved-coarsest, solved-finer, onward-refused, onward-moves, stats-coarsest, stats-finer, count_none}
 
 -- ---- growth
@@ -61,46 +64,44 @@ module _ (b : Balance) (passes : ℕ) (rows : List (List ℕ)) (ws : List ℕ) w
 
 -- ---- answers
 
-pub answer-refused : (refusal : ℕ) (s : AbtmMultilevelStats) (number : ℕ) → number ≡ refusal → (number ≡ 0 → ⊥) → Refused number ≡ answer_for refusal s
-answer-refused refusal s number e d = rw (ne_eqb refusal 0 (λ z. d (e ∙ z)), e)
+pub answer-refused : (refusal : ℕ) (s : AbtmMultilevelStats) (e : Refusal) → refusal_number e ≡ refusal → AnswerFor refusal s (Err e)
+answer-refused refusal s e q = record { number = q; stats = λ z. absurd (refusal-some e (q ∙ z)) }
 
-pub answer-divided : (refusal : ℕ) (s t : AbtmMultilevelStats) → refusal ≡ 0 → t ≡ s → Divided t ≡ answer_for refusal s
-answer-divided refusal s t z e = rw (eq-eqb refusal 0 z, e)
+pub answer-divided : (refusal : ℕ) (s t : AbtmMultilevelStats) → refusal ≡ 0 → t ≡ s → AnswerFor refusal s (Ok t)
+answer-divided refusal s t z e = record { number = sym z; stats = λ x. ap Ok e }
 
 -- a level that tells stats is not refused, and they are its own
-pub divided-of : (refusal : ℕ) (s t : AbtmMultilevelStats) → Divided t ≡ answer_for refusal s → (refusal ≡ 0) × (t ≡ s)
-divided-of refusal s t e = split (eqb refusal 0)
-    (λ p. let q : Divided t ≡ Divided s = rw p at e in (eqb-true refusal 0 p, (cc)))
-    (λ p. let q : Divided t ≡ Refused refusal = rw p at e in absurd (clash q))
+pub divided-of : (refusal : ℕ) (s t : AbtmMultilevelStats) → AnswerFor refusal s (Ok t) → (refusal ≡ 0) × (t ≡ s)
+divided-of refusal s t a = (sym a.number, same (a.stats (sym a.number)))
   where
-    clash : Divided t ≡ Refused refusal → ⊥
-    clash q = let z : ◌≡◌ {A = ℕ} 0 1 = cc in omega arith
+    same : ◌≡◌ {A = Result AbtmMultilevelStats Refusal} (Ok t) (Ok s) → t ≡ s
+    same q = cc
 
-pub refused-of : (refusal : ℕ) (s : AbtmMultilevelStats) (number : ℕ) → Refused number ≡ answer_for refusal s → (number ≡ refusal) × (refusal ≡ 0 → ⊥)
-refused-of refusal s number e = split (eqb refusal 0)
-    (λ p. let q : Refused number ≡ Divided s = rw p at e in absurd (clash q))
-    (λ p. let q : Refused number ≡ Refused refusal = rw p at e in ((cc), eqb-false refusal 0 p))
-  where
-    clash : Refused number ≡ Divided s → ⊥
-    clash q = let z : ◌≡◌ {A = ℕ} 0 1 = cc in omega arith
+pub refused-of : (refusal : ℕ) (s : AbtmMultilevelStats) (e : Refusal) → AnswerFor refusal s (Err e) → (refusal_number e ≡ refusal) × (refusal ≡ 0 → ⊥)
+refused-of refusal s e a = (a.number, λ z. refusal-some e (a.number ∙ z))
+
+-- one that is refused tells why
+pub refused-as : (refusal : ℕ) (s : AbtmMultilevelStats) (a : Result AbtmMultilevelStats Refusal)
+    → AnswerFor refusal s a → (refusal ≡ 0 → ⊥) → (e : Refusal) × (a ≡ Err e) × (refusal_number e ≡ refusal)
+refused-as refusal s (Ok t) k d = absurd (d (sym k.number))
+refused-as refusal s (Err e) k d = (e, refl, k.number)
 
 -- ---- a level's moves, from a trace that is not refused
 
 module _ (b : Balance) (passes : ℕ) (rows : List (List ℕ)) (ws : List ℕ) (cs : List Coarse) (left : ℕ) where
   -- refused before its moves
   pub told-before
-      : (t : Trace) (group : List ℕ) (s : Trace) (o : List ℕ) (number : ℕ)
+      : (t : Trace) (group : List ℕ) (s : Trace) (o : List ℕ) (x : Refusal)
       → solved b passes rows ws cs ≡ onward b passes rows ws group t s
-      → number ≡ t.refusal
-      → (number ≡ 0 → ⊥)
-      → Told b passes rows ws cs left o (Refused number)
-  told-before t group s o number e q d =
+      → refusal_number x ≡ t.refusal
+      → Told b passes rows ws cs left o (Err x)
+  told-before t group s o x e q =
       let r : (solved b passes rows ws cs).refusal ≡ t.refusal =
-      ap (λ (x : Trace). x.refusal) (e ∙ onward-refused b passes rows ws group t s (λ z. d (q ∙ z))) in
+      ap (λ (x : Trace). x.refusal) (e ∙ onward-refused b passes rows ws group t s (λ z. refusal-some x (q ∙ z))) in
       record {
-        answer-is = answer-refused (solved b passes rows ws cs).refusal (stats_so_far rows cs (solved b passes rows ws cs)) number (q ∙ sym r) d;
-        owners-are = λ z. absurd (d (q ∙ sym r ∙ z));
-        small = λ z. absurd (d (q ∙ sym r ∙ z));
+        answer-is = answer-refused (solved b passes rows ws cs).refusal (stats_so_far rows cs (solved b passes rows ws cs)) x (q ∙ sym r);
+        owners-are = λ z. absurd (refusal-some x (q ∙ sym r ∙ z));
+        small = λ z. absurd (refusal-some x (q ∙ sym r ∙ z));
       }
 
   module _ (t : Trace) (group : List ℕ) (s : Trace) (e : solved b passes rows ws cs ≡ onward b passes rows ws group t s) (z : t.refusal ≡ 0) where
@@ -112,15 +113,14 @@ module _ (b : Balance) (passes : ℕ) (rows : List (List ℕ)) (ws : List ℕ) (
 
     -- refused by its check
     pub told-check
-        : (o : List ℕ) (number : ℕ)
-        → number ≡ from_owners b.ranks (moved_from b passes rows ws s.owners)
-        → (number ≡ 0 → ⊥)
-        → Told b passes rows ws cs left o (Refused number)
-    told-check o number q d =
+        : (o : List ℕ) (x : Refusal)
+        → refusal_number x ≡ from_owners b.ranks (moved_from b passes rows ws s.owners)
+        → Told b passes rows ws cs left o (Err x)
+    told-check o x q =
         record {
-          answer-is = answer-refused (solved b passes rows ws cs).refusal (stats_so_far rows cs (solved b passes rows ws cs)) number (q ∙ sym refusal_is) d;
-          owners-are = λ x. absurd (d (q ∙ sym refusal_is ∙ x));
-          small = λ x. absurd (d (q ∙ sym refusal_is ∙ x));
+          answer-is = answer-refused (solved b passes rows ws cs).refusal (stats_so_far rows cs (solved b passes rows ws cs)) x (q ∙ sym refusal_is);
+          owners-are = λ y. absurd (refusal-some x (q ∙ sym refusal_is ∙ y));
+          small = λ y. absurd (refusal-some x (q ∙ sym refusal_is ∙ y));
         }
 
     -- what its moves leave
@@ -142,15 +142,15 @@ module _ (b : Balance) (passes : ℕ) (rows : List (List ℕ)) (ws : List ℕ) (
 -- ---- the coarsest level
 
 module _ (b : Balance) (passes : ℕ) (rows : List (List ℕ)) (ws : List ℕ) (left : ℕ) where
-  pub coarsest-grown : (o : List ℕ) (number : ℕ) → number ≡ (grow b passes rows ws).refusal → (number ≡ 0 → ⊥) → Told b passes rows ws [] left o (Refused number)
-  coarsest-grown o number q d =
-      told-before b passes rows ws [] left (grow b passes rows ws) [] (grow b passes rows ws) o number (solved-coarsest b passes rows ws) q d
+  pub coarsest-grown : (o : List ℕ) (x : Refusal) → refusal_number x ≡ (grow b passes rows ws).refusal → Told b passes rows ws [] left o (Err x)
+  coarsest-grown o x q =
+      told-before b passes rows ws [] left (grow b passes rows ws) [] (grow b passes rows ws) o x (solved-coarsest b passes rows ws) q
 
   module _ (z : (grow b passes rows ws).refusal ≡ 0) (o₀ : List ℕ) (eo : o₀ ≡ (grow b passes rows ws).owners) where
     pub coarsest-check
-        : (o : List ℕ) (number : ℕ) → number ≡ from_owners b.ranks (moved_from b passes rows ws o₀) → (number ≡ 0 → ⊥) → Told b passes rows ws [] left o (Refused number)
-    coarsest-check o number q d =
-        told-check b passes rows ws [] left (grow b passes rows ws) [] (grow b passes rows ws) (solved-coarsest b passes rows ws) z o number (rw eo at q) d
+        : (o : List ℕ) (x : Refusal) → refusal_number x ≡ from_owners b.ranks (moved_from b passes rows ws o₀) → Told b passes rows ws [] left o (Err x)
+    coarsest-check o x q =
+        told-check b passes rows ws [] left (grow b passes rows ws) [] (grow b passes rows ws) (solved-coarsest b passes rows ws) z o x (rw eo at q)
 
     pub coarsest-moved
         : (o : List ℕ) (restarts m : ℕ)
@@ -159,7 +159,7 @@ module _ (b : Balance) (passes : ℕ) (rows : List (List ℕ)) (ws : List ℕ) (
         → restarts ≡ restart_count (growth_from b rows ws).turns
         → m ≡ length (moves_from b passes rows ws o₀)
         → m ≤ 131072
-        → Told b passes rows ws [] left o (Divided (added_moves (grown_stats zero_stats (length rows) restarts) m))
+        → Told b passes rows ws [] left o (Ok (added_moves (grown_stats zero_stats (length rows) restarts) m))
     coarsest-moved o restarts m y q er em h =
         let r = refined b passes rows ws [] left (grow b passes rows ws) [] (grow b passes rows ws) (solved-coarsest b passes rows ws) z (rw eo at y) in
         let gr = grew b passes rows ws z in
@@ -187,15 +187,14 @@ module _ (b : Balance) (passes : ℕ) (rows : List (List ℕ)) (ws : List ℕ) (
 
 module _ (b : Balance) (passes : ℕ) (rows : List (List ℕ)) (ws : List ℕ) (c : Coarse) (cs : List Coarse) (left : ℕ) (oc : List ℕ) where
   pub finer-refused
-      : (o : List ℕ) (number : ℕ)
-      → Told b passes c.rows c.weights cs left oc (Refused number)
-      → Told b passes rows ws (c ∷ cs) (suc left) o (Refused number)
-  finer-refused o number k =
+      : (o : List ℕ) (x : Refusal)
+      → Told b passes c.rows c.weights cs left oc (Err x)
+      → Told b passes rows ws (c ∷ cs) (suc left) o (Err x)
+  finer-refused o x k =
       let t = solved b passes c.rows c.weights cs in
-      let r = refused-of t.refusal (stats_so_far c.rows cs t) number k.answer-is in
-      told-before b passes rows ws (c ∷ cs) (suc left) t c.group (take_over c.group t) o number (solved-finer b passes rows ws c cs) r.0 (λ z. r.1 (sym r.0 ∙ z))
+      told-before b passes rows ws (c ∷ cs) (suc left) t c.group (take_over c.group t) o x (solved-finer b passes rows ws c cs) k.answer-is.number
 
-  module _ (s : AbtmMultilevelStats) (k : Told b passes c.rows c.weights cs left oc (Divided s)) (o₀ : List ℕ) (eo : o₀ ≡ map (at oc) c.group) where
+  module _ (s : AbtmMultilevelStats) (k : Told b passes c.rows c.weights cs left oc (Ok s)) (o₀ : List ℕ) (eo : o₀ ≡ map (at oc) c.group) where
     told : ((solved b passes c.rows c.weights cs).refusal ≡ 0) × (s ≡ stats_so_far c.rows cs (solved b passes c.rows c.weights cs))
     told =
         divided-of (solved b passes c.rows c.weights cs).refusal (stats_so_far c.rows cs (solved b passes c.rows c.weights cs)) s k.answer-is
@@ -204,13 +203,12 @@ module _ (b : Balance) (passes : ℕ) (rows : List (List ℕ)) (ws : List ℕ) (
     taken = eo ∙ ap (λ (x : List ℕ). map (at x) c.group) (k.owners-are told.0)
 
     pub finer-check
-        : (o : List ℕ) (number : ℕ)
-        → number ≡ from_owners b.ranks (moved_from b passes rows ws o₀)
-        → (number ≡ 0 → ⊥)
-        → Told b passes rows ws (c ∷ cs) (suc left) o (Refused number)
-    finer-check o number q d =
+        : (o : List ℕ) (x : Refusal)
+        → refusal_number x ≡ from_owners b.ranks (moved_from b passes rows ws o₀)
+        → Told b passes rows ws (c ∷ cs) (suc left) o (Err x)
+    finer-check o x q =
         let t = solved b passes c.rows c.weights cs in
-        told-check b passes rows ws (c ∷ cs) (suc left) t c.group (take_over c.group t) (solved-finer b passes rows ws c cs) told.0 o number (rw taken at q) d
+        told-check b passes rows ws (c ∷ cs) (suc left) t c.group (take_over c.group t) (solved-finer b passes rows ws c cs) told.0 o x (rw taken at q)
 
     pub finer-moved
         : (o : List ℕ) (m : ℕ)
@@ -221,7 +219,7 @@ module _ (b : Balance) (passes : ℕ) (rows : List (List ℕ)) (ws : List ℕ) (
         → left ≤ 32
         → c.pairs ≤ 16384
         → c.singletons ≤ 16384
-        → Told b passes rows ws (c ∷ cs) (suc left) o (Divided (added_moves (added_pairs s c.pairs c.singletons) m))
+        → Told b passes rows ws (c ∷ cs) (suc left) o (Ok (added_moves (added_pairs s c.pairs c.singletons) m))
     finer-moved o m y q em h hl hp hs =
         let t = solved b passes c.rows c.weights cs in
         let t' = solved b passes rows ws (c ∷ cs) in
@@ -283,7 +281,7 @@ solved-checked b passes rows ws (c ∷ cs) z =
 -- so every owner is a rank, and there are as many as vertices
 pub told-ranked
     : (b : Balance) (passes : ℕ) (rows : List (List ℕ)) (ws : List ℕ) (cs : List Coarse) (left : ℕ) (o : List ℕ) (s : AbtmMultilevelStats)
-    → Told b passes rows ws cs left o (Divided s)
+    → Told b passes rows ws cs left o (Ok s)
     → All (λ x. x < b.ranks) o
 told-ranked b passes rows ws cs left o s k =
     let t = solved b passes rows ws cs in

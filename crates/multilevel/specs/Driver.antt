@@ -1,15 +1,15 @@
 -- The division as the driver meets it, level by level. Assumes nothing.
-use Rattle.std.specs.Prelude.{ℕ, ◌+◌, ◌*◌, ◌≤◌, ◌≡◌, cond, List, map, length, eqb}
+use Rattle.std.specs.Prelude.{ℕ, ◌+◌, ◌*◌, ◌≤◌, ◌≡◌, List, map, length, Result, Ok}
 use Rattle.links.specs.Lists.{foldl, sum}
 use Rattle.links.specs.Loads.{Balance}
+use Rattle.links.specs.Refusals.{number_of}
+use Rattle.links.specs.declared.refusal.Refusal.{Refusal}
 use Rattle.links.specs.declared.options.AbtmMultilevelStats.{AbtmMultilevelStats}
 use Rattle.stages.specs.Coarsen.{Coarse}
 use Rattle.stages.specs.Growth.{restart_count}
 use Rattle.stages.specs.Moves.{Step, after, refine_by_cut}
 use Rattle.stages.specs.Swaps.{refine_fine_pair_swaps}
 use Rattle.stages.specs.declared.swaps.Swapping.{Swapping}
-use Rattle.multilevel.specs.declared.driver.Answer.{Answer}
-use Rattle.multilevel.specs.declared.driver.Answer.TheVariants.{Divided, Refused}
 use Rattle.multilevel.specs.Division.{Level, Trace, solve, steps_of, coarsest_rows, no_swapping}
 
 -- a level and those coarser than it, before any swap
@@ -46,9 +46,10 @@ stats_so_far rows cs t =
 
 -- ---- what a level tells
 
--- the answer of a level: its stats so far, or the refusal
-abbrev pub answer_for : ℕ → AbtmMultilevelStats → Answer
-answer_for refusal s = cond (eqb refusal 0) (Divided s) (Refused refusal)
+-- the answer of a level: its stats so far, or the refusal with its number
+pub record AnswerFor (refusal : ℕ) (s : AbtmMultilevelStats) (a : Result AbtmMultilevelStats Refusal) : Type 0 where
+  pub number : number_of a ≡ refusal
+  pub stats : refusal ≡ 0 → a ≡ Ok s
 
 -- the counts of a level and those coarser than it, of which `left` may be made: none comes near 2^64
 pub record Small (left : ℕ) (cs : List Coarse) (t : Trace) : Type 0 where
@@ -58,7 +59,7 @@ pub record Small (left : ℕ) (cs : List Coarse) (t : Trace) : Type 0 where
   pub steps : step_count t.levels ≤ (left + 1) * 131072
 
 -- a level with these lists, once its moves are made: its answer, its owners, and its counts
-pub record Told (b : Balance) (passes : ℕ) (rows : List (List ℕ)) (weights : List ℕ) (cs : List Coarse) (left : ℕ) (owners : List ℕ) (a : Answer) : Type 0 where
-  pub answer-is : a ≡ answer_for (solved b passes rows weights cs).refusal (stats_so_far rows cs (solved b passes rows weights cs))
+pub record Told (b : Balance) (passes : ℕ) (rows : List (List ℕ)) (weights : List ℕ) (cs : List Coarse) (left : ℕ) (owners : List ℕ) (a : Result AbtmMultilevelStats Refusal) : Type 0 where
+  pub answer-is : AnswerFor (solved b passes rows weights cs).refusal (stats_so_far rows cs (solved b passes rows weights cs)) a
   pub owners-are : (solved b passes rows weights cs).refusal ≡ 0 → owners ≡ (solved b passes rows weights cs).owners
   pub small : (solved b passes rows weights cs).refusal ≡ 0 → Small left cs (solved b passes rows weights cs)

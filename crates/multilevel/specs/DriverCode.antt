@@ -1,25 +1,25 @@
 -- The division in the work slice: what the driver's functions take as given, and what they leave. Assumes nothing.
-use Rattle.std.specs.Prelude.{ℕ, ◌+◌, ◌*◌, ◌≤◌, ◌≡◌, List, [], length}
+use Rattle.std.specs.Prelude.{ℕ, ◌+◌, ◌*◌, ◌≤◌, ◌≡◌, List, [], length, Result}
 use Rattle.links.specs.Lists.{foldl, sum}
 use Rattle.links.specs.Parts.{Kept}
 use Rattle.links.specs.Loads.{load_cap, minimum_load}
 use Rattle.links.specs.Graph.{vertex_count, cut_entries, volume}
 use Rattle.links.specs.Owners.{from_owners}
+use Rattle.links.specs.declared.refusal.Refusal.{Refusal}
 use Rattle.links.specs.Options.{stop_size, added_moves, measured_stats}
 use Rattle.links.specs.declared.options.AbtmMultilevelOptions.{AbtmMultilevelOptions}
 use Rattle.links.specs.declared.options.AbtmMultilevelStats.{AbtmMultilevelStats}
-use Rattle.stages.specs.Level.{rows_at, weights_at, owners_at, Ready, balance_in}
+use Rattle.stages.specs.Level.{rows_at, weights_at, owners_at, Ready, balance_in, level_at}
 use Rattle.stages.specs.Moves.{after}
 use Rattle.stages.specs.MovesCode.{Ranked}
 use Rattle.stages.specs.SwapsCode.{swaps_at}
 use Rattle.stages.specs.declared.level.HierarchyLevel.{HierarchyLevel}
-use Rattle.multilevel.specs.declared.driver.Answer.{Answer}
 use Rattle.multilevel.specs.declared.driver.Rules.{Rules}
 use Rattle.multilevel.specs.Causes.{Call, need_of, early_cause}
 use Rattle.multilevel.specs.Division.{coarsenings, swapping_of, division}
-use Rattle.multilevel.specs.Room.{unit_of, level_at}
-use Rattle.multilevel.specs.Contract.{answer_of, owners_after}
-use Rattle.multilevel.specs.Driver.{moves_from, moved_from, answer_for, Told}
+use Rattle.multilevel.specs.Room.{unit_of}
+use Rattle.multilevel.specs.Contract.{Answers, owners_after}
+use Rattle.multilevel.specs.Driver.{moves_from, moved_from, AnswerFor, Told}
 
 -- a level lies in its room, and `left` more may lie above it, below the stages' own room
 pub record Placed (w : List ℕ) (l : HierarchyLevel) (q : Rules) (left : ℕ) : Type 0 where
@@ -35,22 +35,22 @@ pub record Refining (w : List ℕ) (l : HierarchyLevel) (q : Rules) : Type 0 whe
   pub ranked : Ranked w l q.limits.ranks
 
 -- its moves are made
-pub record LevelRefined (w w' : List ℕ) (l : HierarchyLevel) (q : Rules) (s : AbtmMultilevelStats) (a : Answer) : Type 0 where
+pub record LevelRefined (w w' : List ℕ) (l : HierarchyLevel) (q : Rules) (s : AbtmMultilevelStats) (a : Result AbtmMultilevelStats Refusal) : Type 0 where
   pub owners-are : owners_at w' l ≡ moved_from (balance_in q.limits) q.passes (rows_at w l) (weights_at w l) (owners_at w l)
   pub answer-is
-      : a
-      ≡ answer_for (from_owners q.limits.ranks (moved_from (balance_in q.limits) q.passes (rows_at w l) (weights_at w l) (owners_at w l)))
+      : AnswerFor (from_owners q.limits.ranks (moved_from (balance_in q.limits) q.passes (rows_at w l) (weights_at w l) (owners_at w l)))
       (added_moves s (length (moves_from (balance_in q.limits) q.passes (rows_at w l) (weights_at w l) (owners_at w l))))
+      a
   pub few : length (moves_from (balance_in q.limits) q.passes (rows_at w l) (weights_at w l) (owners_at w l)) ≤ 131072
   pub kept : Kept l.owners (length w) w' w
 
 -- growth and moves on the coarsest level
-pub record LevelGrown (w w' : List ℕ) (l : HierarchyLevel) (q : Rules) (a : Answer) : Type 0 where
+pub record LevelGrown (w w' : List ℕ) (l : HierarchyLevel) (q : Rules) (a : Result AbtmMultilevelStats Refusal) : Type 0 where
   pub told : (left : ℕ) → Told (balance_in q.limits) q.passes (rows_at w l) (weights_at w l) [] left (owners_at w' l) a
   pub kept : Kept l.owners (length w) w' w
 
 -- a level and those coarser than it, of which `left` may be made
-pub record LevelSolved (w w' : List ℕ) (l : HierarchyLevel) (q : Rules) (left : ℕ) (a : Answer) : Type 0 where
+pub record LevelSolved (w w' : List ℕ) (l : HierarchyLevel) (q : Rules) (left : ℕ) (a : Result AbtmMultilevelStats Refusal) : Type 0 where
   pub told
       : Told (balance_in q.limits) q.passes (rows_at w l) (weights_at w l) (coarsenings left q.stop (rows_at w l) (weights_at w l)) left (owners_at w' l) a
   pub kept : Kept l.fine_to_coarse (length w) w' w
@@ -82,8 +82,8 @@ pub record Divisible (c : Call) (w : List ℕ) : Type 0 where
   pub exact : length w ≡ need_of c
 
 -- the answer and the owners that the division asks for
-pub record SiteDivided (c : Call) (owners owners' : List ℕ) (a : Answer) : Type 0 where
-  pub answer-is : a ≡ answer_of (division c).outcome
+pub record SiteDivided (c : Call) (owners owners' : List ℕ) (a : Result AbtmMultilevelStats Refusal) : Type 0 where
+  pub answer-is : Answers (division c).outcome a
   pub owners-are : owners' ≡ owners_after (division c).outcome owners
 
 -- ---- the finest level's end

@@ -1,13 +1,13 @@
 -- Rule 9: the link file, with document 02's workloads and its 14. One definition of the format serves the check and the reader. Assumes nothing.
-use Rattle.std.specs.Prelude.{ℕ, ◌+◌, ◌-◌, ◌*◌, ◌≤◌, ◌<◌, ◌≡◌, Bool, false, not, ◌&&◌, ◌||◌, cond, List, [], ◌∷◌, ◌++◌, map, length, drop, replicate, ltb, eqb}
+use Rattle.std.specs.Prelude.{ℕ, ◌+◌, ◌-◌, ◌*◌, ◌≤◌, ◌<◌, ◌≡◌, Bool, false, not, ◌&&◌, ◌||◌, cond, List, [], ◌∷◌, ◌++◌, map, length, drop, replicate, ltb, eqb, Result, Ok, Err}
 use Rattle.std.proofs.lemmas.List.Edits.{sets}
 use Rattle.links.specs.Lists.{at, filter, any, all, range, empty, concat_map, above}
 use Rattle.links.specs.Options.{default_list_length, default_pass_factor}
 use Rattle.links.specs.Graph.{rows_of, offsets_from, packed, SoundLists}
 use Rattle.links.specs.Workloads.{bad_workloads}
 use Rattle.multilevel.specs.declared.file.Sizes.{Sizes}
-use Rattle.multilevel.specs.declared.file.Read.{Read}
-use Rattle.multilevel.specs.declared.file.Read.TheVariants.{Site, Refused}
+use Rattle.links.specs.Refusals.{number_of}
+use Rattle.links.specs.declared.refusal.Refusal.{Refusal}
 
 -- "u32 little-endian": the file's number at place i
 unfoldable pub number : List ℕ → ℕ → ℕ
@@ -131,25 +131,17 @@ zero_sizes =
       options = record { max_levels = 0; coarse_vertices_per_rank = 0; imbalance_per_mille = 0; refinement_passes = 0; swap_list_length = 0; swap_pass_factor = 0 };
     }
 
--- document 01's number and sizes of each answer
-abbrev pub read_number : Read → ℕ
-read_number (Site s) = 0
-read_number (Refused number) = number
-
-abbrev pub read_sizes : Read → Sizes
-read_sizes (Site s) = s
-read_sizes (Refused number) = zero_sizes
+-- document 01's sizes of each answer
+abbrev pub read_sizes : Result Sizes Refusal → Sizes
+read_sizes (Ok s) = s
+read_sizes (Err e) = zero_sizes
 
 -- "the reader returns sizes and options, and writes the offsets and the rising neighbour lists, nothing beyond", and "n workloads for either
 -- length"; a refusal leaves "everything" as it was
-pub record FileRead (b offsets neighbors workloads offsets' neighbors' workloads' : List ℕ) (r : Read) : Type 0 where
-  pub answer
-      : r
-      ≡ cond (eqb (reader_cause b (length offsets) (length neighbors) (length workloads)) 0)
-      (Site (sizes_of b))
-      (Refused (reader_cause b (length offsets) (length neighbors) (length workloads)))
+pub record FileRead (b offsets neighbors workloads offsets' neighbors' workloads' : List ℕ) (r : Result Sizes Refusal) : Type 0 where
+  pub answer : reader_cause b (length offsets) (length neighbors) (length workloads) ≡ 0 → r ≡ Ok (sizes_of b)
   -- so are its number and its sizes, "zero sizes" with a refusal
-  pub number : read_number r ≡ reader_cause b (length offsets) (length neighbors) (length workloads)
+  pub number : number_of r ≡ reader_cause b (length offsets) (length neighbors) (length workloads)
   pub sizes : read_sizes r ≡ cond (eqb (reader_cause b (length offsets) (length neighbors) (length workloads)) 0) (sizes_of b) zero_sizes
   pub refused
       : (reader_cause b (length offsets) (length neighbors) (length workloads) ≡ 0 → ⊥)

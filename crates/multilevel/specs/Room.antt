@@ -9,32 +9,6 @@ use Rattle.stages.specs.declared.level.HierarchyLevel.{HierarchyLevel}
 abbrev pub unit_of : ℕ → ℕ → ℕ
 unit_of n m = 4 * n + 2 * m + 2
 
--- a level at base: its parts one after the other
-abbrev pub level_at : ℕ → ℕ → ℕ → HierarchyLevel
-level_at n m base =
-    record {
-      vertices = n;
-      entries = m;
-      offsets = base;
-      neighbors = base + (n + 1);
-      weights = base + (n + 1) + m;
-      fine_to_coarse = base + (n + 1) + m + n;
-      owners = base + (n + 1) + m + n + n;
-    }
-
--- the same level, further up
-abbrev pub moved_up : HierarchyLevel → ℕ → HierarchyLevel
-moved_up l unit =
-    record {
-      vertices = l.vertices;
-      entries = l.entries;
-      offsets = l.offsets + unit;
-      neighbors = l.neighbors + unit;
-      weights = l.weights + unit;
-      fine_to_coarse = l.fine_to_coarse + unit;
-      owners = l.owners + unit;
-    }
-
 -- ---- the site's own lists
 
 -- they fit the level that they are laid into

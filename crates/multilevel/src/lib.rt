@@ -5,10 +5,10 @@ mod causes;
 mod driver;
 mod file;
 mod lay;
+mod link_file;
 mod measure;
-mod room;
 mod takeover;
 mod writeback;
 
-pub use driver::{Answer, abtm_multilevel_partition};
-pub use file::{Read, Sizes, link_file_cause, read_link_file};
+pub use driver::abtm_multilevel_partition;
+pub use file::{Sizes, link_file_cause, read_link_file};

@@ -5,7 +5,7 @@ ghost use Rattle.links.specs.Graph.{cut_entries};
 ghost use Rattle.stages.specs.Level.{rows_at, owners_at, Ready};
 ghost use Rattle.multilevel.specs.Measure.{Met, Legible, RowMet, Measurable, Marked, VertexMet, VolumeMet, Measured};
 
-use links::{cut_entries, fill_part, index};
+use links::{cut_entries, fill_part};
 use stages::HierarchyLevel;
 
 #[derive(Clone, Copy)]
@@ -18,12 +18,11 @@ fn cut_in(work: &[u32], l: HierarchyLevel) -> u64
     requires { Ready work.now l (length work.now) }
     ensures { result ≡ cut_entries (rows_at work.now l) (owners_at work.now l) }
 {
-    let o = l.offsets;
-    let b = l.neighbors;
-    let own = l.owners;
-    let n = l.vertices;
-    let m = l.entries;
-    cut_entries(&work[o..o + (n + 1)], &work[b..b + m], &work[own..own + n])
+    cut_entries(
+        &work[l.offsets..l.offsets + (l.vertices + 1)],
+        &work[l.neighbors..l.neighbors + l.entries],
+        &work[l.owners..l.owners + l.vertices],
+    )
 }
 
 // 1 if u's owner is not home and has no mark yet: it gets one.
@@ -35,7 +34,7 @@ fn meet(work: &mut [u32], own: usize, seen: usize, u: usize, home: u32, mark: u3
     if rank == home {
         return 0;
     }
-    let place = seen + index(rank);
+    let place = seen + rank as usize;
     if work[place] == mark {
         return 0;
     }
@@ -58,11 +57,9 @@ fn meet_row(
     ensures { RowMet work.old work.new own seen ranks a e home mark result }
 {
     let mut x: u64 = 0;
-    let mut i = a;
-    while i < e {
-        let u = index(work[i]);
+    for i in a..e {
+        let u = work[i] as usize;
         x += meet(work, own, seen, u, home, mark);
-        i += 1;
     }
     x
 }
@@ -72,24 +69,19 @@ fn meet_vertex(work: &mut [u32], l: HierarchyLevel, seen: usize, ranks: usize, v
     requires { Measurable work.old l seen ranks × (v < l.vertices) × Marked work.old seen ranks v }
     ensures { VertexMet work.old work.new l seen ranks v result }
 {
-    let o = l.offsets;
-    let own = l.owners;
-    let a = l.neighbors + index(work[o + v]);
-    let e = l.neighbors + index(work[o + (v + 1)]);
-    let home = work[own + v];
-    meet_row(work, own, seen, ranks, a, e, home, v as u32 + 1)
+    let a = l.neighbors + work[l.offsets + v] as usize;
+    let e = l.neighbors + work[l.offsets + (v + 1)] as usize;
+    let home = work[l.owners + v];
+    meet_row(work, l.owners, seen, ranks, a, e, home, v as u32 + 1)
 }
 
 fn volume_in(work: &mut [u32], l: HierarchyLevel, seen: usize, ranks: usize) -> u64
     requires { Measurable work.old l seen ranks × Marked work.old seen ranks 0 }
     ensures { VolumeMet work.old work.new l seen ranks result }
 {
-    let n = l.vertices;
     let mut x: u64 = 0;
-    let mut v = 0;
-    while v < n {
+    for v in 0..l.vertices {
         x += meet_vertex(work, l, seen, ranks, v);
-        v += 1;
     }
     x
 }
@@ -105,7 +97,7 @@ pub(crate) fn measure_level(
     requires { Measurable work.old l scratch ranks }
     ensures { Measured work.old work.new l scratch ranks result }
 {
-    let cut = cut_in(&work[..], l);
+    let cut = cut_in(work, l);
     fill_part(work, scratch, scratch + ranks, 0);
     let volume = volume_in(work, l, scratch, ranks);
     Measures { cut, volume }

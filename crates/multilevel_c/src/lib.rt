@@ -28,5 +28,5 @@ pub extern "C" fn hipstern_minimum_load(total: u64, ranks: u32, imbalance_per_mi
 pub extern "C" fn hipstern_link_file_cause(file: &[u8]) -> u32
     ensures { result ≡ file_cause file.now }
 {
-    multilevel::link_file_cause(file)
+    links::number_of(multilevel::link_file_cause(file))
 }

@@ -4,22 +4,10 @@
 // It ends with the input, with a request that is cut short, and with a length above 2,048, which is more than any request here has.
 #![tactic(auto)]
 
-ghost use Rattle.std.specs.Prelude.{◌<◌};
-
 // the descriptors of standard input and output
 const STDIN: i32 = 0;
 
 const STDOUT: i32 = 1;
-
-fn wide(x: u8) -> usize
-    ensures { result < 256 }
-{
-    x as usize
-}
-
-fn length_of(head: [u8; 4]) -> usize {
-    wide(head[0]) + 256 * wide(head[1]) + 65536 * wide(head[2]) + 16777216 * wide(head[3])
-}
 
 // A request that fills this slice is read and answered: whether to go on.
 fn answer(file: &mut [u8]) -> bool {
@@ -37,7 +25,7 @@ fn answer_next() -> bool {
     if io::read_full(STDIN, &mut head) < 4 {
         return false;
     }
-    let length = length_of(head);
+    let length = u32::from_le_bytes(head) as usize;
     if length > 2048 {
         return false;
     }
@@ -45,10 +33,11 @@ fn answer_next() -> bool {
     answer(&mut file[..length])
 }
 
-// Nothing says that the input ends, so the turns are counted, down from a number that no run uses up.
+// Nothing says that the input ends, so the turns are counted, up to a number that no run reaches.
 fn main() {
-    let mut turns = u64::MAX;
-    while turns > 0 && answer_next() {
-        turns -= 1;
+    for _ in 0..u64::MAX {
+        if !answer_next() {
+            break;
+        }
     }
 }

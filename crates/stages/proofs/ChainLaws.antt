@@ -13,7 +13,7 @@ use borrow.Author.Tests.{eqb-false, eq-eqb, ne_eqb, lt-ltb, ltb-true}
 use Rattle.links.specs.Lists.{at, filter, elem, concat_map}
 use Rattle.links.specs.Graph.{row, degree}
 use Rattle.links.proofs.ListLaws.{split, eqb-sym, elem-append}
-use Rattle.stages.specs.FrontierCode.{cells, front, last, Distinct, Below, stops_at, Onward, Chain, Going}
+use Rattle.stages.specs.FrontierCode.{cells, front, last, Distinct, Below, stops_at, Onward, Going}
 
 -- ---- what is in a list
 
@@ -133,11 +133,6 @@ module _ (rows : List (List ℕ)) (links : List ℕ) (h p n : ℕ) where
 -- ---- a search along a chain
 
 module _ (rows : List (List ℕ)) (links : List ℕ) (ok : ℕ → Bool) (b h p n : ℕ) where
-  pub going_start : Chain rows links b h p n → Going rows links ok b h p n h p n
-  going_start c =
-      let z : n - n ≡ 0 = omega arith in
-      record { same = refl; fewer = omega arith; cells_are = rw z; inside = c.inside; place_in = c.place_in }
-
   -- what is left of the search: candidates and entries
   abbrev pub ahead : ℕ → ℕ → ℕ → ℕ
   ahead h p n = length (front rows links h p n) + n

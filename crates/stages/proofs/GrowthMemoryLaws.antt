@@ -271,14 +271,6 @@ module _ {l : GrowthRoom} {w : List ℕ} (h : GrowthLaid l (length w)) (r : ℕ)
       let done : ℕ → Memory = λ i. memory (set m.owners g r) m.links (set m.loads r i) m.heads m.tails m.places m.counts in
       record { after = s.after ∙ ap done ez; outside = s.outside }
 
--- a seed that is owned is the chain
-pub seat-is
-    : {l : GrowthRoom} {w w₁ w₂ : List ℕ} {m : Memory} (r g : ℕ)
-    → Stored l w w₁ m
-    → Stored l w₁ w₂ (begun (memory_in l w₁) r g)
-    → Stored l w w₂ (begun m r g)
-seat-is r g s t = stored-then (λ m. begun m r g) s t
-
 -- what the code reads
 module _ {l : GrowthRoom} (w : List ℕ) (h : GrowthLaid l (length w)) (r : ℕ) (q : r < l.ranks) where
   pub read-load : at w (l.loads + r) ≡ at (memory_in l w).loads r

@@ -5,21 +5,25 @@ use mathlib.Core.List.{List, [], ◌∷◌, ◌++◌, append-nil}
 use Prim.Native.Nat.{ℕ, suc, ◌+◌, ◌-◌, ◌*◌, ◌≤◌, ◌<◌}
 use native.Mathlib.Omega.{arith}
 use native.Mathlib.Numerals.{add-one}
-use lib.Dec.{eqb}
+use lib.Dec.{eqb, ltb}
 use lib.ListN.{length}
-use borrow.Author.Tests.{eqb-true, eqb-false}
+use borrow.Author.Tests.{eqb-true, eqb-false, eq-eqb, ne_eqb, ltb-true, ltb-false}
 use Rattle.links.specs.Lists.{unassigned, filter, any, foldl, range}
-use Rattle.links.proofs.ListLaws.{split, count-append, any-counts, none-counts as none_left}
+use Rattle.links.proofs.ListLaws.{split, count-append, count-length, any-counts, none-counts as none_left}
 use Rattle.links.proofs.RangeLaws.{range_snoc}
 use Rattle.stages.specs.Growth.{Growing, Turn, Round, Choice, passes, claims, restarts, is_pass, is_restart, after_turn, turn, round, rounds, restart_count}
-use Rattle.stages.specs.FrontierCode.{rows_in, weights_in, memory_in, vacant_in, Outside, Stands, GrowthReady, kind_of}
+use Rattle.stages.specs.FrontierCode.{rows_in, weights_in, memory_in, vacant_in, Outside, Stands, GrowthReady, kind_of, claims_by, restarts_by}
 use Rattle.stages.specs.GrowthCode.{StandsIn, TurnMade, claim_count, vacancy, turns_of, Rounded, next_round, More, rounds_of, Leaves, grown_answer, left_cause, GrownTo}
 use Rattle.stages.specs.declared.growth.GrowthRoom.{GrowthRoom}
-use Rattle.stages.specs.declared.growth.Grown.{Grown}
+use Rattle.stages.specs.declared.growth.TurnKind.{TurnKind}
+use Rattle.stages.specs.declared.growth.TurnKind.TheVariants.{Pass, Claim, Restart}
+use Rattle.std.specs.Prelude.{Result, Ok, Err}
+use Rattle.links.specs.declared.refusal.Refusal.{Refusal}
+use Rattle.links.specs.declared.refusal.Refusal.TheVariants.{GrowthStuck}
 use Rattle.stages.proofs.StepLaws.{foldl-append}
 use Rattle.stages.proofs.GrowthLaws.{round-owners}
 use Rattle.stages.proofs.GrowthMemoryLaws.{outside_trans, outside_refl}
-use Rattle.stages.proofs.GrowthSliceLaws.{rows_same, weights-same}
+use Rattle.stages.proofs.GrowthSliceLaws.{rows_same, weights-same, rows_all}
 
 abbrev is_claim : Turn → Bool
 is_claim t = not (is_pass t.choice)
@@ -47,20 +51,20 @@ module _ (cap : ℕ) (rows : List (List ℕ)) (weights : List ℕ) where
 
 -- ---- counts
 
-kind-claims : (t : Turn) → cond (eqb (kind_of t.choice) 0) 0 1 ≡ claim_count (t ∷ [])
+kind-claims : (t : Turn) → claims_by (kind_of t.choice) ≡ claim_count (t ∷ [])
 unfolding claim_count
 kind-claims t = go t.choice
   where
-    go : (c : Choice) → cond (eqb (kind_of c) 0) 0 1 ≡ length (cond (not (is_pass c)) (t ∷ []) [])
+    go : (c : Choice) → claims_by (kind_of c) ≡ length (cond (not (is_pass c)) (t ∷ []) [])
     go passes = refl
     go (claims g) = refl
     go (restarts g) = refl
 
-kind-restarts : (t : Turn) → cond (eqb (kind_of t.choice) 2) 1 0 ≡ restart_count (t ∷ [])
+kind-restarts : (t : Turn) → restarts_by (kind_of t.choice) ≡ restart_count (t ∷ [])
 unfolding restart_count
 kind-restarts t = go t.choice
   where
-    go : (c : Choice) → cond (eqb (kind_of c) 2) 1 0 ≡ length (cond (is_restart c) (t ∷ []) [])
+    go : (c : Choice) → restarts_by (kind_of c) ≡ length (cond (is_restart c) (t ∷ []) [])
     go passes = refl
     go (claims g) = refl
     go (restarts g) = refl
@@ -73,13 +77,11 @@ restarts-append : (xs ys : List Turn) → restart_count (xs ++ ys) ≡ restart_c
 unfolding restart_count
 restarts-append xs ys = count-append (λ t. is_restart t.choice) xs ys
 
-pub one-or : (b : Bool) → cond b 0 1 ≤ 1
-one-or true = omega arith
-one-or false = omega arith
-
-pub or-one : (b : Bool) → cond b 1 0 ≤ 1
-or-one true = omega arith
-or-one false = omega arith
+-- a turn claims one group at most
+kind-few : (x : TurnKind) → (claims_by x ≤ 1) × (restarts_by x ≤ 1)
+kind-few Pass = (omega arith, omega arith)
+kind-few Claim = (omega arith, omega arith)
+kind-few Restart = (omega arith, omega arith)
 
 -- ---- a round
 
@@ -95,7 +97,7 @@ round-start {l} {w} cap d = record {
   few = (omega arith, omega arith);
 }
 
-module _ {l : GrowthRoom} {cap : ℕ} {w w' w₂ : List ℕ} {i c e x : ℕ} (d : GrowthReady l w) (b : Rounded l cap w w' i c e) (t : TurnMade l cap w' w₂ i x) where
+module _ {l : GrowthRoom} {cap : ℕ} {w w' w₂ : List ℕ} {i c e : ℕ} {x : TurnKind} (d : GrowthReady l w) (b : Rounded l cap w w' i c e) (t : TurnMade l cap w' w₂ i x) where
   abbrev Was : Growing → Growing
   Was s = (turns_of cap l w i s).state
 
@@ -120,33 +122,35 @@ module _ {l : GrowthRoom} {cap : ℕ} {w w' w₂ : List ℕ} {i c e x : ℕ} (d 
   turn-now : Growing → Turn
   turn-now s = (turn cap (rows_in l w) (weights_in l w) (Was s) i).turn
 
-  pub round-step : (c' e' : ℕ) → c' ≡ cond (eqb x 0) 0 1 → e' ≡ cond (eqb x 2) 1 0 → Rounded l cap w w₂ (i + 1) (c + c') (e + e')
+  pub round-step : (c' e' : ℕ) → c' ≡ c + claims_by x → e' ≡ e + restarts_by x → Rounded l cap w w₂ (i + 1) c' e'
   unfolding turn-now
   round-step c' e' ec ee = record {
     outside = outside_trans b.outside t.outside;
     ready = t.ready;
     claims-are = λ s st.
-        let k : c' ≡ claim_count (turn-now s ∷ []) = ec ∙ ap (λ (y : ℕ). cond (eqb y 0) 0 1) (kind-now (Was s) (b.stands s st)) ∙ kind-claims (turn-now s) in
-        ap₂ (λ (a z : ℕ). a + z) (b.claims-are s st) k
+        let k : claims_by x ≡ claim_count (turn-now s ∷ []) = ap claims_by (kind-now (Was s) (b.stands s st)) ∙ kind-claims (turn-now s) in
+        ec
+        ∙ ap₂ (λ (a z : ℕ). a + z) (b.claims-are s st) k
         ∙ sym (ap claim_count (round-next cap (rows_in l w) (weights_in l w) s i).0 ∙ claims-append (turns_of cap l w i s).turns (turn-now s ∷ []));
     restarts-are = λ s st.
-        let k : e' ≡ restart_count (turn-now s ∷ []) = ee ∙ ap (λ (y : ℕ). cond (eqb y 2) 1 0) (kind-now (Was s) (b.stands s st)) ∙ kind-restarts (turn-now s) in
-        ap₂ (λ (a z : ℕ). a + z) (b.restarts-are s st) k
+        let k : restarts_by x ≡ restart_count (turn-now s ∷ []) = ap restarts_by (kind-now (Was s) (b.stands s st)) ∙ kind-restarts (turn-now s) in
+        ee
+        ∙ ap₂ (λ (a z : ℕ). a + z) (b.restarts-are s st) k
         ∙ sym (ap restart_count (round-next cap (rows_in l w) (weights_in l w) s i).0 ∙ restarts-append (turns_of cap l w i s).turns (turn-now s ∷ []));
     stands = λ s st. subst (StandsIn cap l w w₂) (sym (round-next cap (rows_in l w) (weights_in l w) s i).1) (stands-now (Was s) (b.stands s st));
-    vacant = omega (arith, b.vacant, t.vacant, ec);
-    few = (omega (arith, b.few.0, ec, one-or (eqb x 0)), omega (arith, b.few.1, ee, or-one (eqb x 2)));
+    vacant = omega (arith, ec, b.vacant, t.vacant);
+    few = (omega (arith, ec, b.few.0, (kind-few x).0), omega (arith, ee, b.few.1, (kind-few x).1));
   }
 
 -- ---- is a group left that nobody owns?
 
 module _ (owners : List ℕ) (left : ℕ) (e : left ≡ vacant_in owners) where
-  pub some_left : (left ≡ 0 → ⊥) → vacancy owners ≡ true
+  some_left : (left ≡ 0 → ⊥) → vacancy owners ≡ true
   some_left z = split (vacancy owners)
       (λ p. p)
       (λ p. absurd (z (eqb-true left 0 (ap (λ (x : ℕ). eqb x 0) e ∙ none_left (eqb unassigned) owners ∙ ap not p))))
 
-  pub none-vacant : left ≡ 0 → vacancy owners ≡ false
+  none-vacant : left ≡ 0 → vacancy owners ≡ false
   none-vacant z = split (vacancy owners)
       (λ p. absurd (omega (arith, e, z, any-counts (eqb unassigned) owners p)))
       (λ p. p)
@@ -170,7 +174,7 @@ module _ (l : GrowthRoom) (cap : ℕ) (w : List ℕ) where
   no v s st = next-no cap (rows_in l w) (weights_in l w) l.ranks s (ap vacancy (sym st.owners-are) ∙ v)
 
 module _ {l : GrowthRoom} {cap : ℕ} {w : List ℕ} where
-  pub more_yes : {w' : List ℕ} {c e : ℕ} → vacancy (memory_in l w).owners ≡ true → Rounded l cap w w' l.ranks c e → More l cap w w' c e
+  more_yes : {w' : List ℕ} {c e : ℕ} → vacancy (memory_in l w).owners ≡ true → Rounded l cap w w' l.ranks c e → More l cap w w' c e
   more_yes {w'} v b = record {
     outside = b.outside;
     ready = b.ready;
@@ -181,7 +185,7 @@ module _ {l : GrowthRoom} {cap : ℕ} {w : List ℕ} where
     few = b.few.1;
   }
 
-  pub more_no : GrowthReady l w → vacancy (memory_in l w).owners ≡ false → More l cap w w 0 0
+  more_no : GrowthReady l w → vacancy (memory_in l w).owners ≡ false → More l cap w w 0 0
   unfolding claim_count restart_count
   more_no d v = record {
     outside = outside_refl l w;
@@ -274,7 +278,7 @@ pub record GrownBy (l : GrowthRoom) (cap : ℕ) (w w' : List ℕ) (i e : ℕ) : 
   pub few : e ≤ i * 4294967296
   pub leaves : (s : Growing) → StandsIn cap l w w s → Leaves l cap w w' (l.level.vertices - i) e s
 
-pub growth-start : {l : GrowthRoom} {w : List ℕ} (cap : ℕ) → GrowthReady l w → GrownBy l cap w w 0 0
+growth-start : {l : GrowthRoom} {w : List ℕ} (cap : ℕ) → GrowthReady l w → GrownBy l cap w w 0 0
 growth-start {l} {w} cap d =
     let z : l.level.vertices - 0 ≡ l.level.vertices = omega arith in
     record {
@@ -306,7 +310,7 @@ module _ {l : GrowthRoom} {cap : ℕ} {w w' w₂ : List ℕ} {i e c e' : ℕ} (d
     leaves = f;
   }
 
-  pub growth-step : (j : ℕ) → j ≡ cond (eqb c 0) l.level.vertices (i + 1) → GrownBy l cap w w₂ j (e + e')
+  growth-step : (j : ℕ) → j ≡ cond (eqb c 0) l.level.vertices (i + 1) → GrownBy l cap w w₂ j (e + e')
   growth-step j q = split (eqb c 0)
       (λ z. let jn : j ≡ l.level.vertices = q ∙ rw z in
       let none : 0 ≡ l.level.vertices - j = omega arith in
@@ -316,8 +320,8 @@ module _ {l : GrowthRoom} {cap : ℕ} {w w' w₂ : List ℕ} {i e c e' : ℕ} (d
       by-then j (omega arith) (omega arith)
       (λ s t. subst (λ (x : ℕ). Leaves l cap w w₂ (l.level.vertices - x) (e + e') s) (sym jn) (leaves-more d g.outside (old s t) m (eqb-false c 0 z))))
 
-pub growth-done
-    : {l : GrowthRoom} {cap : ℕ} {w w' : List ℕ} {i e : ℕ} (r : Grown)
+growth-done
+    : {l : GrowthRoom} {cap : ℕ} {w w' : List ℕ} {i e : ℕ} (r : Result ℕ Refusal)
     → GrownBy l cap w w' i e
     → l.level.vertices ≤ i
     → r ≡ grown_answer (left_cause (memory_in l w').owners) e
@@ -334,7 +338,45 @@ growth-done {l} {cap} {w} {w'} {i} {e} r g h q = record {
     end : (s : Growing) → StandsIn cap l w w s → Leaves l cap w w' 0 e s
     end s t = let z : l.level.vertices - i ≡ 0 = omega arith in subst (λ (f : ℕ). Leaves l cap w w' f e s) z (g.leaves s t)
 
-pub next-less : (n i c j : ℕ) → i < n → j ≡ cond (eqb c 0) n (i + 1) → n - j < n - i
-next-less n i c j h q = split (eqb c 0)
-    (λ z. let e : j ≡ n = q ∙ rw z in omega arith)
-    (λ z. let e : j ≡ i + 1 = q ∙ rw z in omega arith)
+-- what the loop keeps: some rounds were made, each with a claim, and so many groups are left
+pub record Underway (l : GrowthRoom) (cap : ℕ) (w w' : List ℕ) (left e : ℕ) : Type 0 where
+  pub made : ℕ
+  pub enough : made + left ≤ l.level.vertices
+  pub by : GrownBy l cap w w' made e
+  pub left_is : left ≡ vacant_in (memory_in l w').owners
+
+pub underway-start : {l : GrowthRoom} {w : List ℕ} (cap left : ℕ) → GrowthReady l w → left ≡ vacant_in (memory_in l w).owners → Underway l cap w w left 0
+underway-start {l} {w} cap left d e = record {
+  made = 0;
+  enough = omega (arith, count-length (eqb unassigned) (memory_in l w).owners, d.good.owners-all, rows_all l w d.laid);
+  by = growth-start cap d;
+  left_is = e;
+}
+
+module _ {l : GrowthRoom} {cap : ℕ} {w w' : List ℕ} {left e : ℕ} (d : GrowthReady l w) (u : Underway l cap w w' left e) where
+  -- every group is owned: the definition makes no further round
+  pub underway-done : left ≡ 0 → GrownTo l cap w w' (Ok e)
+  underway-done z =
+      let v = none-vacant (memory_in l w').owners left u.left_is z in
+      split (ltb u.made l.level.vertices)
+      (λ p. let none = more_no {cap = cap} u.by.ready v in
+      growth-done (Ok e) (growth-step d u.by (ltb-true u.made l.level.vertices p) none l.level.vertices refl) (omega arith) (rw v (ap (λ (x : ℕ). Ok x) (omega arith))))
+      (λ p. growth-done (Ok e) u.by (ltb-false u.made l.level.vertices p) (rw v refl))
+
+  module _ (some : 0 < left) {w₂ : List ℕ} {c e' : ℕ} (b : Rounded l cap w' w₂ l.ranks c e') where
+    more : More l cap w' w₂ c e'
+    more = more_yes (some_left (memory_in l w').owners left u.left_is (λ z. omega arith)) b
+
+    pub underway-step : (c ≡ 0 → ⊥) → Underway l cap w w₂ (left - c) (e + e')
+    underway-step z = record {
+      made = u.made + 1;
+      enough = omega (arith, u.enough);
+      by = growth-step d u.by (omega (arith, u.enough)) more (u.made + 1) (rw (ne_eqb c 0 z));
+      left_is = omega (arith, u.left_is, b.vacant);
+    }
+
+    -- a round without a claim
+    pub underway-stuck : c ≡ 0 → GrownTo l cap w w₂ (Err GrowthStuck)
+    underway-stuck z =
+        let v = some_left (memory_in l w₂).owners left (omega (arith, u.left_is, b.vacant)) (λ y. omega arith) in
+        growth-done (Err GrowthStuck) (growth-step d u.by (omega (arith, u.enough)) more l.level.vertices (rw (eq-eqb c 0 z))) (omega arith) (rw v)

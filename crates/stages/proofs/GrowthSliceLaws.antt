@@ -1,27 +1,27 @@
 -- A rank's turn in the work slice. Assumes nothing.
 use mathlib.Core.Path.{◌≡◌, refl, sym, ap, ap₂, ◌∙◌, subst}
-use mathlib.Core.Logic.{◌⊎◌, inl, inr, ⊎_elim}
 use mathlib.Core.Bool.{Bool, true, false, true≢false}
 use mathlib.Core.List.{List, [], ◌∷◌, ◌++◌}
-use mathlib.Core.Option.{Option, none, some}
+use mathlib.Core.Option.{none, some}
+use Rattle.std.specs.Prelude.{Option, Some, None, MatchOption}
 use Prim.Native.Nat.{ℕ, zero, suc, ◌+◌, ◌-◌, ◌≤◌, ◌<◌, ◌^◌}
 use native.Mathlib.Omega.{arith}
 use lib.Dec.{eqb, ltb}
 use lib.ListN.{length, set, length-set, replicate, length-replicate}
 use lib.Seq.{get_or-set_same, get_or-set_other}
-use borrow.Author.Tests.{eqb-true, eqb-false, eq-eqb, ne_eqb, ltb-true, ltb-false}
+use borrow.Author.Tests.{eqb-true, eqb-false, ltb-true, ltb-false}
 use Rattle.links.specs.Lists.{at, unassigned, filter, best, range, sum, All}
-use Rattle.links.specs.Best.{held}
 use Rattle.links.specs.Graph.{row, degree, load, rows_of, vertex_count, SoundLists}
 use Rattle.links.proofs.ListLaws.{split, best-kept, all-to}
 use Rattle.links.proofs.PartLaws.{length_part, get_or-part}
-use Rattle.links.proofs.RowLaws.{length-rows, all-place}
+use Rattle.links.proofs.RowLaws.{length-rows}
 use Rattle.stages.specs.Level.{offsets_at, neighbors_at, owners_at}
 use Rattle.stages.specs.Coarsen.{by_degree}
 use Rattle.stages.specs.Growth.{restart}
 use Rattle.stages.specs.FrontierCode.{opens, front, higher, Chain, Sought, FirstOpen, candidate_at, Lent, Memory, memory, rows_in, weights_in, order_in, links_in, memory_in, vacant_in, GrowthLaid, Outside, front_of, Good, Stands, parked, owning, begun, appended, GrowthReady, Stored}
 use Rattle.stages.specs.GrowthCode.{open_in, open_now, SoughtIn, restart_in, Behind, Advanced, Claimed, TurnMade}
 use Rattle.stages.specs.declared.growth.GrowthRoom.{GrowthRoom}
+use Rattle.stages.specs.declared.growth.TurnKind.TheVariants.{Pass, Claim, Restart}
 use Rattle.stages.proofs.GroupingLaws.{by_degree-below}
 use Rattle.stages.proofs.GrowthLaws.{unowned-in, vacant-set}
 use Rattle.stages.proofs.LoadSetLaws.{load-joins}
@@ -91,13 +91,6 @@ module _ {l : GrowthRoom} {w : List ℕ} (d : GrowthReady l w) (h p n : ℕ) whe
       × (0 < n → (h < vertex_count (offsets_at w l.level)) × (p < degree (rows_of (offsets_at w l.level) (neighbors_at w l.level)) h))
   unfolding rows_in
   found-lent f = (d.lists, λ z. (rw (n-is l w d.laid) (f z).0, (f z).1))
-
-  pub found-post
-      : (g : ℕ)
-      → g ≡ candidate_at (rows_of (offsets_at w l.level) (neighbors_at w l.level)) h p n
-      → g ≡ candidate_at (rows_in l w) h p n
-  unfolding rows_in
-  found-post g e = e
 
 -- ---- the level's lists stay
 
@@ -188,26 +181,20 @@ module _ {l : GrowthRoom} {w : List ℕ} (cap r : ℕ) {h p n : ℕ} (d : Growth
   unfolding front_of
   same-now = ap (filter ok) front-now ∙ to.going.same
 
-  abbrev Found : ℕ → Memory → Type 0
+  abbrev Found : Option ℕ → Memory → Type 0
   Found g m =
-      ((g ≡ unassigned) × (filter (open_to cap (weights_in l w) m.owners r) (front_of (rows_in l w) m r) ≡ []))
-      ⊎
-      ((xs : List ℕ) × (filter (open_to cap (weights_in l w) m.owners r) (front_of (rows_in l w) m r) ≡ g ∷ xs) × (open_to cap (weights_in l w) m.owners r g ≡ true))
+      MatchOption g (filter (open_to cap (weights_in l w) m.owners r) (front_of (rows_in l w) m r) ≡ [])
+      (λ x. (xs : List ℕ) × (filter (open_to cap (weights_in l w) m.owners r) (front_of (rows_in l w) m r) ≡ x ∷ xs) × (open_to cap (weights_in l w) m.owners r x ≡ true))
 
-  found-now : (g : ℕ) → g ≡ candidate_at (rows_in l w) h p n → Found g (parked (memory_in l w) r h p n)
+  found-now : Found (candidate_at (rows_in l w) h p n) (parked (memory_in l w) r h p n)
   unfolding candidate_at parked memory
-  found-now g e = split (eqb n 0)
+  found-now = split (eqb n 0)
       (λ z. let n₀ : n ≡ 0 = eqb-true n 0 z in
-      inl (
-        e ∙ rw z,
-        ap (filter ok) (front-now ∙ ap (front (rows_in l w) (memory_in l w).links h p) n₀) ∙ at-end (rows_in l w) (memory_in l w).links ok h p,
-      ))
+      rw z (ap (filter ok) (front-now ∙ ap (front (rows_in l w) (memory_in l w).links h p) n₀) ∙ at-end (rows_in l w) (memory_in l w).links ok h p))
       (λ z. let a = at_open (rows_in l w) (memory_in l w).links ok h p n to.stopped (eqb-false n 0 z) in
-      let ge : g ≡ at (row (rows_in l w) h) p = e ∙ rw z in
-      let xs : List ℕ = filter ok (front (rows_in l w) (memory_in l w).links h (p + 1) n) in
-      inr (xs, ap (filter ok) front-now ∙ a.2 ∙ ap (λ (x : ℕ). x ∷ xs) (sym ge), ap ok ge ∙ a.1))
+      rw z (filter ok (front (rows_in l w) (memory_in l w).links h (p + 1) n), ap (filter ok) front-now ∙ a.2, a.1))
 
-  pub advance-is : {w' : List ℕ} (g : ℕ) → g ≡ candidate_at (rows_in l w) h p n → Stored l w w' (parked (memory_in l w) r h p n) → Advanced l cap w w' r g
+  pub advance-is : {w' : List ℕ} (g : Option ℕ) → g ≡ candidate_at (rows_in l w) h p n → Stored l w w' (parked (memory_in l w) r h p n) → Advanced l cap w w' r g
   advance-is g e s = record {
     outside = s.outside;
     ready = ready-step d s step-here;
@@ -215,7 +202,7 @@ module _ {l : GrowthRoom} {w : List ℕ} (cap r : ℕ) {h p n : ℕ} (d : Growth
         subst (λ (m : Memory). Stands cap (rows_in l w) (weights_in l w) l.ranks m z) (sym s.after)
         (stands-parked r q st (parked (memory_in l w) r h p n) owners-now same-now (front-there d.good step-here));
     owners-are = ap (λ (m : Memory). m.owners) s.after ∙ owners-now;
-    found = subst (Found g) (sym s.after) (found-now g e);
+    found = subst (Found g) (sym s.after) (subst (λ (o : Option ℕ). Found o (parked (memory_in l w) r h p n)) (sym e) found-now);
   }
 
 -- ---- a claim
@@ -350,17 +337,15 @@ module _ {l : GrowthRoom} {w : List ℕ} (cap r : ℕ) (d : GrowthReady l w) (q 
         ∙ ap (λ (xs : List ℕ). first (filter (open_now cap l w r) xs)) (sym d.ordered)
 
     -- the group at the place where the search stopped
-    pub restart-there : p < l.level.vertices → held (at w (l.order + p)) ≡ restart_in cap l w r
+    pub restart-there : p < l.level.vertices → restart_in cap l w r ≡ some (at w (l.order + p))
     restart-there h =
         let k : p < length (order_in l w) = omega (arith, order-size) in
         let e : at (order_in l w) p ≡ at w (l.order + p) = get_or-part w l.order (l.order + l.level.vertices) p (omega arith) in
-        let g = all-place (λ g. (g < length (weights_in l w)) × (g < length (owners_at w l.level))) (order_in l w) p order-groups k in
-        let ne : eqb (at w (l.order + p)) unassigned ≡ false = ne_eqb (at w (l.order + p)) unassigned (λ z. omega (arith, e, g.0, weights-length l w d.laid, d.laid.few)) in
-        rw ne (sym (first-is-best ∙ first_found (open_now cap l w r) (order_in l w) p closed-before k (f.found k) ∙ ap some e))
+        first-is-best ∙ first_found (open_now cap l w r) (order_in l w) p closed-before k (f.found k) ∙ ap some e
 
-    pub restart-nowhere : l.level.vertices ≤ p → held unassigned ≡ restart_in cap l w r
+    pub restart-nowhere : l.level.vertices ≤ p → restart_in cap l w r ≡ none
     restart-nowhere h =
-        sym (first-is-best ∙ first-none (open_now cap l w r) (order_in l w) (λ i k. closed-before i (omega (arith, order-size))))
+        first-is-best ∙ first-none (open_now cap l w r) (order_in l w) (λ i k. closed-before i (omega (arith, order-size)))
 
 zeros : (n d : ℕ) → at (replicate n 0) d ≡ 0
 zeros zero d = refl
@@ -390,13 +375,13 @@ behind-less {l} {w} {w'} {cs} {cap} o f b = record {
       (λ y. y);
 }
 
-module _ {l : GrowthRoom} {w w' cs : List ℕ} {cap r g : ℕ} (d : GrowthReady l w) where
-  pub behind-advanced : Advanced l cap w w' r g → Behind cap l w cs → Behind cap l w' cs
+module _ {l : GrowthRoom} {w w' cs : List ℕ} {cap r : ℕ} (d : GrowthReady l w) where
+  pub behind-advanced : {g : Option ℕ} → Advanced l cap w w' r g → Behind cap l w cs → Behind cap l w' cs
   behind-advanced a = behind-less (order_same d.laid a.outside) (λ e x h y.
       ap₂ (λ (W o : List ℕ). open_to cap W o e x) (sym (weights-same {l = l} d.laid a.outside)) (sym a.owners-are) ∙ y)
 
-  pub behind-claimed : r < l.ranks → Claimed l w w' r g → open_in cap l w w r g ≡ true → Behind cap l w cs → Behind cap l w' cs
-  behind-claimed q c op =
+  pub behind-claimed : {g : ℕ} → r < l.ranks → Claimed l w w' r g → open_in cap l w w r g ≡ true → Behind cap l w cs → Behind cap l w' cs
+  behind-claimed {g} q c op =
       let u = (open-facts cap (weights_in l w) (memory_in l w).owners (load (weights_in l w) (memory_in l w).owners r) g op).0 in
       behind-less (order_same d.laid c.outside) (λ e x h y.
       opens_before cap (weights_in l w) (memory_in l w).owners g r e u (λ z. omega (arith, d.laid.few-ranks)) (λ z. omega (arith, d.laid.few-ranks)) x
@@ -404,56 +389,38 @@ module _ {l : GrowthRoom} {w w' cs : List ℕ} {cap r g : ℕ} (d : GrowthReady 
 
 -- ---- a turn
 
-module _ {l : GrowthRoom} {w : List ℕ} (cap r : ℕ) (d : GrowthReady l w) (q : r < l.ranks) (f : ℕ)
-    (e : held f ≡ restart_in cap l w r) where
-  restart-held : restart cap (rows_in l w) (weights_in l w) (memory_in l w).owners r ≡ held f
-  restart-held =
+module _ {l : GrowthRoom} {w : List ℕ} (cap r : ℕ) (d : GrowthReady l w) (q : r < l.ranks) where
+  restart-now : restart cap (rows_in l w) (weights_in l w) (memory_in l w).owners r ≡ restart_in cap l w r
+  restart-now =
       restart-is cap (rows_in l w) (weights_in l w) (memory_in l w).owners r
       ∙ ap₂ (λ (x n : ℕ). best (higher (rows_in l w)) (filter (opens cap (weights_in l w) (memory_in l w).owners x) (range 0 n))) (sym (d.good.loads-are r q))
       (rows_all l w d.laid)
-      ∙ sym e
 
-  pub restart-none : f ≡ unassigned → restart cap (rows_in l w) (weights_in l w) (memory_in l w).owners r ≡ none
-  restart-none z = restart-held ∙ rw (eq-eqb f unassigned z)
+  pub restart-open : (g : ℕ) → restart_in cap l w r ≡ some g → open_in cap l w w r g ≡ true
+  restart-open g e =
+      best-kept (higher (rows_in l w)) (open_to cap (weights_in l w) (memory_in l w).owners r) (range 0 (length (rows_in l w))) g
+      (sym (restart-is cap (rows_in l w) (weights_in l w) (memory_in l w).owners r) ∙ restart-now ∙ e)
 
-  pub restart-some : (f ≡ unassigned → ⊥) → restart cap (rows_in l w) (weights_in l w) (memory_in l w).owners r ≡ some f
-  restart-some z = restart-held ∙ rw (ne_eqb f unassigned z)
-
-  pub restart-open : (f ≡ unassigned → ⊥) → open_in cap l w w r f ≡ true
-  restart-open z =
-      best-kept (higher (rows_in l w)) (open_to cap (weights_in l w) (memory_in l w).owners r) (range 0 (length (rows_in l w))) f
-      (sym (restart-is cap (rows_in l w) (weights_in l w) (memory_in l w).owners r) ∙ restart-some z)
-
-module _ {l : GrowthRoom} {w w₁ : List ℕ} {cap r g : ℕ} (d : GrowthReady l w) (q : r < l.ranks) (a : Advanced l cap w w₁ r g) where
-  abbrev ours : Type 0
-  ours = filter (open_in cap l w w₁ r) (front_of (rows_in l w) (memory_in l w₁) r) ≡ []
-
+module _ {l : GrowthRoom} {w w₁ : List ℕ} {cap r : ℕ} {g : Option ℕ} (d : GrowthReady l w) (q : r < l.ranks) (a : Advanced l cap w w₁ r g) where
   rs : rows_in l w₁ ≡ rows_in l w
   rs = rows_same d.laid a.outside
 
   ws : weights_in l w₁ ≡ weights_in l w
   ws = weights-same d.laid a.outside
 
-  first-is : (g ≡ unassigned → ⊥) → (xs : List ℕ) × (filter (open_in cap l w w₁ r) (front_of (rows_in l w) (memory_in l w₁) r) ≡ g ∷ xs) × (open_in cap l w w₁ r g ≡ true)
-  first-is z = ⊎_elim (λ y. absurd (z y.0)) (λ y. y) a.found
+  first-is : (v : ℕ) → g ≡ Some v → (xs : List ℕ) × (filter (open_in cap l w w₁ r) (front_of (rows_in l w) (memory_in l w₁) r) ≡ v ∷ xs) × (open_in cap l w w₁ r v ≡ true)
+  first-is v z = rw z at a.found
 
-  pub advanced-open : (g ≡ unassigned → ⊥) → open_in cap l w₁ w₁ r g ≡ true
-  advanced-open z = subst (λ (x : List ℕ). open_to cap x (memory_in l w₁).owners r g ≡ true) (sym ws) (first-is z).2
+  pub advanced-open : (v : ℕ) → g ≡ Some v → open_in cap l w₁ w₁ r v ≡ true
+  advanced-open v z = subst (λ (x : List ℕ). open_to cap x (memory_in l w₁).owners r v ≡ true) (sym ws) (first-is v z).2
 
-  never : g ≡ unassigned → at (memory_in l w₁).owners g ≡ unassigned → ⊥
-  never z y = omega (arith, unowned-in (memory_in l w₁).owners g y, a.ready.good.owners-all, rows_all l w₁ a.ready.laid, a.ready.laid.few)
+  none_open : g ≡ None → filter (open_in cap l w w₁ r) (front_of (rows_in l w) (memory_in l w₁) r) ≡ []
+  none_open z = rw z at a.found
 
-  none_open : g ≡ unassigned → filter (open_in cap l w w₁ r) (front_of (rows_in l w) (memory_in l w₁) r) ≡ []
-  none_open z = ⊎_elim
-      (λ y. y.1)
-      (λ y. absurd (never z (open-facts cap (weights_in l w) (memory_in l w₁).owners (load (weights_in l w) (memory_in l w₁).owners r) g y.2).0))
-      a.found
-
-  restart-then
-      : (o : Option ℕ)
-      → restart cap (rows_in l w₁) (weights_in l w₁) (memory_in l w₁).owners r ≡ o
-      → restart cap (rows_in l w) (weights_in l w) (memory_in l w₁).owners r ≡ o
-  restart-then o e = ap₂ (λ (R : List (List ℕ)) (W : List ℕ). restart cap R W (memory_in l w₁).owners r) (sym rs) (sym ws) ∙ e
+  restart-then : restart cap (rows_in l w) (weights_in l w) (memory_in l w₁).owners r ≡ restart_in cap l w₁ r
+  restart-then =
+      ap₂ (λ (R : List (List ℕ)) (W : List ℕ). restart cap R W (memory_in l w₁).owners r) (sym rs) (sym ws)
+      ∙ restart-now cap r a.ready q
 
   few-ranks₁ : l.ranks < unassigned
   few-ranks₁ = omega (arith, d.laid.enough, d.laid.few)
@@ -472,32 +439,31 @@ module _ {l : GrowthRoom} {w w₁ : List ℕ} {cap r g : ℕ} (d : GrowthReady l
     fewer =
         omega (arith, ap vacant_in c.owners-are, vacant-set (memory_in l w₁).owners v r un (λ z. omega (arith, few-ranks₁)), ap vacant_in a.owners-are)
 
-    pub turn-claim : v ≡ g → (g ≡ unassigned → ⊥) → TurnMade l cap w w₂ r 1
-    turn-claim vg z =
-        let f = first-is z in
-        let f' : filter (open_in cap l w w₁ r) (front_of (rows_in l w) (memory_in l w₁) r) ≡ v ∷ f.0 = rw vg f.1 in
+    pub turn-claim : g ≡ Some v → TurnMade l cap w w₂ r Claim
+    turn-claim z =
+        let f = first-is v z in
         record {
           outside = outside_trans a.outside c.outside;
           ready = c.ready;
           vacant = fewer;
-          kind = λ s st. (claim-made r q (a.stands s st) (memory_in l w₂) v few-ranks₁ un c.owners-are hr tr f.0 f').0;
-          stands = λ s st. (claim-made r q (a.stands s st) (memory_in l w₂) v few-ranks₁ un c.owners-are hr tr f.0 f').1;
+          kind = λ s st. (claim-made r q (a.stands s st) (memory_in l w₂) v few-ranks₁ un c.owners-are hr tr f.0 f.1).0;
+          stands = λ s st. (claim-made r q (a.stands s st) (memory_in l w₂) v few-ranks₁ un c.owners-are hr tr f.0 f.1).1;
         }
 
-    pub turn-restart : g ≡ unassigned → restart cap (rows_in l w₁) (weights_in l w₁) (memory_in l w₁).owners r ≡ some v → TurnMade l cap w w₂ r 2
+    pub turn-restart : g ≡ None → restart_in cap l w₁ r ≡ some v → TurnMade l cap w w₂ r Restart
     turn-restart z e = record {
       outside = outside_trans a.outside c.outside;
       ready = c.ready;
       vacant = fewer;
-      kind = λ s st. (restart-made r q (a.stands s st) (memory_in l w₂) v few-ranks₁ un c.owners-are hr tr (none_open z) (restart-then (some v) e)).0;
-      stands = λ s st. (restart-made r q (a.stands s st) (memory_in l w₂) v few-ranks₁ un c.owners-are hr tr (none_open z) (restart-then (some v) e)).1;
+      kind = λ s st. (restart-made r q (a.stands s st) (memory_in l w₂) v few-ranks₁ un c.owners-are hr tr (none_open z) (restart-then ∙ e)).0;
+      stands = λ s st. (restart-made r q (a.stands s st) (memory_in l w₂) v few-ranks₁ un c.owners-are hr tr (none_open z) (restart-then ∙ e)).1;
     }
 
-  pub turn-pass : g ≡ unassigned → restart cap (rows_in l w₁) (weights_in l w₁) (memory_in l w₁).owners r ≡ none → TurnMade l cap w w₁ r 0
+  pub turn-pass : g ≡ None → restart_in cap l w₁ r ≡ none → TurnMade l cap w w₁ r Pass
   turn-pass z e = record {
     outside = a.outside;
     ready = a.ready;
     vacant = omega (arith, ap vacant_in a.owners-are);
-    kind = λ s st. (pass-made r q (a.stands s st) (none_open z) (restart-then none e)).0;
-    stands = λ s st. (pass-made r q (a.stands s st) (none_open z) (restart-then none e)).1;
+    kind = λ s st. (pass-made r q (a.stands s st) (none_open z) (restart-then ∙ e)).0;
+    stands = λ s st. (pass-made r q (a.stands s st) (none_open z) (restart-then ∙ e)).1;
   }

@@ -1,13 +1,13 @@
 -- The whole growth stage: rule 4's seeds are sown, and growth from there is what the stage tells. Assumes nothing.
-use mathlib.Core.Path.{◌≡◌, sym, ap, ap₂, ◌∙◌, subst}
-use mathlib.Core.Bool.{true, false, true≢false, cond}
+use mathlib.Core.Path.{◌≡◌, refl, sym, ap, ap₂, ◌∙◌, subst}
+use mathlib.Core.Bool.{Bool, true, false, true≢false, cond}
 use mathlib.Core.List.{List, [], ◌∷◌, ◌++◌}
 use Prim.Native.Nat.{ℕ, zero, suc, ◌+◌, ◌*◌, ◌≤◌, ◌<◌}
 use native.Mathlib.Omega.{arith}
 use lib.Dec.{eqb, ltb}
 use lib.ListN.{length, get_or-append}
 use lib.Seq.{get_or_at}
-use borrow.Author.Tests.{eqb-true, le-ltb, lt-ltb, ltb-true, ltb-false}
+use borrow.Author.Tests.{le-ltb, lt-ltb, ltb-true, ltb-false}
 use Rattle.links.specs.Lists.{at, All, elem}
 use Rattle.links.specs.Parts.{part, Kept}
 use Rattle.links.proofs.ListLaws.{split, all_append}
@@ -20,10 +20,12 @@ use Rattle.stages.specs.Growth.{Growth, weighted_multisource, grown, restart_cou
 use Rattle.stages.specs.FrontierCode.{memory, rows_in, memory_in, GrowthLaid}
 use Rattle.stages.specs.Coarsen.{by_degree}
 use Rattle.stages.specs.Order.{Orderable, OrderedByDegree}
-use Rattle.stages.specs.GrowthCode.{grown_number, grown_value, grown_answer, left_cause, Seeds, Sown, Multisource, growth_need, room_at, Growable, growth_at, grown_at, growth_in, too_heavy, too_few_groups, growth_cause, GrownTold}
+use Rattle.stages.specs.GrowthCode.{vacancy, grown_value, grown_answer, left_cause, Seeds, Sown, Multisource, growth_need, room_at, Growable, growth_at, grown_at, growth_in, too_heavy, too_few_groups, growth_cause, GrownTold}
 use Rattle.stages.specs.declared.level.HierarchyLevel.{HierarchyLevel}
-use Rattle.stages.specs.declared.growth.Grown.{Grown}
-use Rattle.stages.specs.declared.growth.Grown.TheVariants as variant
+use Rattle.std.specs.Prelude.{Result, Err}
+use Rattle.links.specs.Refusals.{number_of}
+use Rattle.links.specs.declared.refusal.Refusal.{Refusal}
+use Rattle.links.specs.declared.refusal.Refusal.TheVariants.{GroupAboveCap, FewerGroupsThanRanks}
 use Rattle.stages.proofs.GrowthLaws.{length-seeds}
 use Rattle.stages.proofs.LevelLaws.{all-vertices, rows-kept, weights-kept, ready-kept}
 use Rattle.stages.proofs.SearchLaws.{in-get_or}
@@ -85,14 +87,22 @@ module _ (rows : List (List ℕ)) where
 
 -- ---- the answer
 
-number_of : (n e : ℕ) → grown_number (grown_answer n e) ≡ n
-number_of n e = split (eqb n 0) (λ p. rw p (sym (eqb-true n 0 p))) (λ p. rw p)
+-- the numbers that growth gives
+by_number : (x y z : Bool) (e : ℕ) → number_of (grown_answer (cond x 6 (cond y 7 (cond z 8 0))) e) ≡ cond x 6 (cond y 7 (cond z 8 0))
+by_number true y z e = refl
+by_number false true z e = refl
+by_number false false true e = refl
+by_number false false false e = refl
+
+number-is : (w : List ℕ) (l : HierarchyLevel) (k cap e : ℕ) → number_of (grown_answer (growth_cause w l k cap) e) ≡ growth_cause w l k cap
+unfolding growth_cause
+number-is w l k cap e = by_number (too_heavy cap (weights_at w l)) (too_few_groups (rows_at w l) k) (vacancy (grown_at w l k cap)) e
 
 value_of : (n e : ℕ) → grown_value (grown_answer n e) ≡ cond (eqb n 0) e 0
 value_of n e = split (eqb n 0) (λ p. rw p) (λ p. rw p)
 
 told
-    : (w w' : List ℕ) (l : HierarchyLevel) (s k cap : ℕ) (r : Grown)
+    : (w w' : List ℕ) (l : HierarchyLevel) (s k cap : ℕ) (r : Result ℕ Refusal)
     → r ≡ grown_answer (growth_cause w l k cap) (restart_count (growth_at w l k cap).turns)
     → (too_heavy cap (weights_at w l) ≡ false → too_few_groups (rows_at w l) k ≡ false → owners_at w' l ≡ grown_at w l k cap)
     → Kept l.owners (s + growth_need l.vertices k) w' w
@@ -102,7 +112,7 @@ told w w' l s k cap r a o kept =
     let e = restart_count (growth_at w l k cap).turns in
     record {
       answer = a;
-      number = ap grown_number a ∙ number_of n e;
+      number = ap number_of a ∙ number-is w l k cap e;
       value = ap grown_value a ∙ value_of n e;
       owners = o;
       kept = kept;
@@ -111,9 +121,6 @@ told w w' l s k cap r a o kept =
 module _ {w : List ℕ} {l : HierarchyLevel} {s k : ℕ} (P : Growable w l s k) where
   n-is : length (rows_at w l) ≡ l.vertices
   n-is = all-vertices P.level
-
-  pub weights-fit : l.weights + l.vertices ≤ length w
-  weights-fit = let L = P.level in omega arith
 
   module _ (cap : ℕ) where
     cause-heavy : too_heavy cap (weights_at w l) ≡ true → growth_cause w l k cap ≡ 6
@@ -129,19 +136,19 @@ module _ {w : List ℕ} {l : HierarchyLevel} {s k : ℕ} (P : Growable w l s k) 
     cause-left h f = rw (h, f)
 
     -- "group weight above cap"
-    pub told-heavy : too_heavy cap (weights_at w l) ≡ true → GrownTold w w l s k cap (variant.Refused 6)
+    pub told-heavy : too_heavy cap (weights_at w l) ≡ true → GrownTold w w l s k cap (Err GroupAboveCap)
     told-heavy h =
-        told w w l s k cap (variant.Refused 6)
+        told w w l s k cap (Err GroupAboveCap)
         (sym (ap (λ (n : ℕ). grown_answer n (restart_count (growth_at w l k cap).turns)) (cause-heavy h)))
         (λ a b. absurd (true≢false (sym h ∙ a)))
         (kept_refl l.owners (s + growth_need l.vertices k) w)
 
     module _ (h : too_heavy cap (weights_at w l) ≡ false) where
       -- "fewer groups than k"
-      pub told-few : l.vertices < k → GrownTold w w l s k cap (variant.Refused 7)
+      pub told-few : l.vertices < k → GrownTold w w l s k cap (Err FewerGroupsThanRanks)
       told-few f =
           let t : too_few_groups (rows_at w l) k ≡ true = lt-ltb (length (rows_at w l)) k (omega (arith, n-is)) in
-          told w w l s k cap (variant.Refused 7)
+          told w w l s k cap (Err FewerGroupsThanRanks)
           (sym (ap (λ (n : ℕ). grown_answer n (restart_count (growth_at w l k cap).turns)) (cause-few h t)))
           (λ a b. absurd (true≢false (sym t ∙ b)))
           (kept_refl l.owners (s + growth_need l.vertices k) w)
@@ -219,7 +226,7 @@ module _ {w : List ℕ} {l : HierarchyLevel} {s k : ℕ} (P : Growable w l s k) 
           ∙ ap (weighted_multisource cap (rows_at w l) (weights_at w l)) chosen
 
       pub told-grown
-          : (cap : ℕ) {w₂ : List ℕ} {r : Grown}
+          : (cap : ℕ) {w₂ : List ℕ} {r : Result ℕ Refusal}
           → too_heavy cap (weights_at w l) ≡ false
           → Multisource (room_at l s k) cap w₁ w₂ r
           → GrownTold w w₂ l s k cap r

@@ -2,7 +2,7 @@
 use mathlib.Core.Path.{◌≡◌, refl, sym, ap, ap₂, ◌∙◌, subst}
 use mathlib.Core.Bool.{false≢true}
 use mathlib.Core.List.{List, [], ◌∷◌, ◌++◌, map}
-use Prim.Native.Nat.{ℕ, zero, suc, ◌+◌, ◌≤◌, ◌<◌, ◌^◌}
+use Prim.Native.Nat.{ℕ, zero, suc, ◌+◌, ◌-◌, ◌≤◌, ◌<◌, ◌^◌}
 use native.Mathlib.Omega.{arith}
 use lib.Dec.{eqb, leb}
 use lib.ListN.{length, get_or, set, drop, replicate, get_or-replicate, length-map, length-drop, drop_of_length-le}
@@ -18,7 +18,8 @@ use Rattle.stages.specs.Growth.{Growing, Growth, seeded, seed_owners, grown, wei
 use Rattle.stages.specs.FrontierCode.{cells, front, opens, Memory, memory, rows_in, weights_in, memory_in, GrowthLaid, Outside, cells_of, front_of, Good, Stands, owning, begun, GrowthReady, Stored}
 use Rattle.stages.specs.GrowthCode.{StandsIn, rounds_of, grown_answer, left_cause, GrownTo, seeds_in, Seeds, Sown, Blank, Cleared, Seated, growth_in, Multisource}
 use Rattle.stages.specs.declared.growth.GrowthRoom.{GrowthRoom}
-use Rattle.stages.specs.declared.growth.Grown.{Grown}
+use Rattle.std.specs.Prelude.{Result}
+use Rattle.links.specs.declared.refusal.Refusal.{Refusal}
 use Rattle.stages.proofs.LoadLaws.{load-none}
 use Rattle.stages.proofs.FrontierLaws.{filter-sub}
 use Rattle.stages.proofs.GrowthMemoryLaws.{outside_refl, outside_trans, between-same, laid-after, lengths}
@@ -171,12 +172,12 @@ module _ {l : GrowthRoom} {w w' : List ℕ} (b : Blank l w) (r : ℕ) (q : r < l
   v = at (seeds_in l w) r
 
   -- the seeds stay where they are
-  pub seed-at : at w' (l.seeds + r) ≡ at (seeds_in l w) r
+  seed-at : at w' (l.seeds + r) ≡ at (seeds_in l w) r
   seed-at =
       let L = b.sown.laid in
       t.outside.between (l.seeds + r) (omega arith) (omega arith) ∙ sym (get_or-part w l.seeds (l.seeds + l.ranks) r (omega arith))
 
-  pub seat-pre : (GrowthLaid l (length w')) × (v < l.level.vertices) × (at (memory_in l w').loads r ≡ 0)
+  seat-pre : (GrowthLaid l (length w')) × (v < l.level.vertices) × (at (memory_in l w').loads r ≡ 0)
   seat-pre = (t.ready.laid, b.sown.seeds.inside r q, t.loads-are r (omega arith))
 
   free-then : at (memory_in l w').owners v ≡ unassigned
@@ -229,7 +230,7 @@ module _ {l : GrowthRoom} {w w' : List ℕ} (b : Blank l w) (r : ℕ) (q : r < l
         subst (λ (R : List (List ℕ)). front_of R (memory_in l w₂) d ≡ front_of R (memory_in l w') d) rs
         (ap (λ (m : Memory). front_of (rows_in l w') m d) after ∙ front-there t.ready.good step d x y)
 
-    pub seated-step : Seated l w w₂ r
+    seated-step : Seated l w w₂ r
     unfolding seed_owners
     seated-step = record {
       outside = outside_trans t.outside s.outside;
@@ -245,6 +246,30 @@ module _ {l : GrowthRoom} {w w' : List ℕ} (b : Blank l w) (r : ℕ) (q : r < l
           (λ p. subst (λ (j : ℕ). front_of (rows_in l w) (memory_in l w₂) j ≡ row (rows_in l w) (at seeds j)) (sym (eqb-true d r p)) front-r)
           (λ p. front-d d y (eqb-false d r p) ∙ t.fronts d (let z = eqb-false d r p in omega arith) y);
     }
+
+-- a count down from i: the rank before it is seated
+module _ {l : GrowthRoom} {w w' : List ℕ} (b : Blank l w) (i : ℕ) (some : 0 < i) (all : i ≤ l.ranks) (t : Seated l w w' i) where
+  abbrev r : ℕ
+  r = i - 1
+
+  abbrev g : ℕ
+  g = at w' (l.seeds + r)
+
+  in-ranks : r < l.ranks
+  in-ranks = omega arith
+
+  seated : Seated l w w' (suc r)
+  seated = let e : i ≡ suc r = omega arith in subst (Seated l w w') e t
+
+  pub seat-next : (GrowthLaid l (length w')) × (r < l.ranks) × (g < l.level.vertices) × (at (memory_in l w').loads r ≡ 0)
+  seat-next =
+      let p = seat-pre b r in-ranks seated in
+      (p.0, in-ranks, rw (seed-at b r in-ranks seated) p.1, p.2)
+
+  pub seated-next : {w₂ : List ℕ} → Stored l w' w₂ (begun (owning (memory_in l w') r g (at (weights_in l w') g)) r g) → Seated l w w₂ r
+  seated-next {w₂} s =
+      seated-step b r in-ranks seated
+      (subst (λ (v : ℕ). Stored l w' w₂ (begun (owning (memory_in l w') r v (at (weights_in l w') v)) r v)) (seed-at b r in-ranks seated) s)
 
 get_or-mapped : (f : ℕ → List ℕ) (xs : List ℕ) (d : ℕ) → d < length xs → get_or (map f xs) d [] ≡ f (at xs d)
 get_or-mapped f [] d h = absurd (omega arith)
@@ -274,7 +299,7 @@ seated-stands {l} {w} {w'} cap b t =
 
 -- ---- growth from there
 
-module _ {l : GrowthRoom} {cap : ℕ} {w w₁ w₂ : List ℕ} {r : Grown} (b : Blank l w) (t : Seated l w w₁ 0) (g : GrownTo l cap w₁ w₂ r) where
+module _ {l : GrowthRoom} {cap : ℕ} {w w₁ w₂ : List ℕ} {r : Result ℕ Refusal} (b : Blank l w) (t : Seated l w w₁ 0) (g : GrownTo l cap w₁ w₂ r) where
   abbrev Facts : List (List ℕ) → List ℕ → Type 0
   Facts R W =
       (z : Growing)
@@ -313,7 +338,7 @@ module _ {l : GrowthRoom} {cap : ℕ} {w w₁ w₂ : List ℕ} {r : Grown} (b : 
 
 -- the growth is the same one before the owners were cleared
 pub multisource-after
-    : {l : GrowthRoom} {cap : ℕ} {w w₁ w₂ : List ℕ} {r : Grown}
+    : {l : GrowthRoom} {cap : ℕ} {w w₁ w₂ : List ℕ} {r : Result ℕ Refusal}
     → Sown l w
     → Outside l w w₁
     → Multisource l cap w₁ w₂ r

@@ -15,6 +15,8 @@ use Rattle.links.specs.Graph.{row, load}
 use Rattle.links.proofs.ListLaws.{split, and_l, filter-append}
 use Rattle.stages.specs.Growth.{Growing, Popped, pop, choice, passes, claims, restarts, turn, chosen, claimed, restart, unowned, fits}
 use Rattle.stages.specs.FrontierCode.{opens, higher, Memory, front_of, Stands, kind_of}
+use Rattle.stages.specs.declared.growth.TurnKind.{TurnKind}
+use Rattle.stages.specs.declared.growth.TurnKind.TheVariants.{Pass, Claim, Restart}
 use Rattle.stages.proofs.GrowthLaws.{unowned-in}
 use Rattle.stages.proofs.FrontierLaws.{first, rest, filter-sub, same-sub, pop-claim, pop-rest, opens_before, open-facts}
 
@@ -200,7 +202,7 @@ module _ {cap : ℕ} {rows : List (List ℕ)} {weights : List ℕ} {k : ℕ} {m 
 -- ---- whole turns
 
 module _ {cap : ℕ} {rows : List (List ℕ)} {weights : List ℕ} {k : ℕ} {m : Memory} {s : Growing} (r : ℕ) (q : r < k) (t : Stands cap rows weights k m s) where
-  abbrev Made : Memory → ℕ → Type 0
+  abbrev Made : Memory → TurnKind → Type 0
   Made m' x = (x ≡ kind_of (turn cap rows weights s r).turn.choice) × Stands cap rows weights k m' (turn cap rows weights s r).state
 
   abbrev pf : List ℕ
@@ -220,7 +222,7 @@ module _ {cap : ℕ} {rows : List (List ℕ)} {weights : List ℕ} {k : ℕ} {m 
   restart-theirs : restart cap rows weights s.owners r ≡ restart cap rows weights m.owners r
   restart-theirs = ap (λ (o : List ℕ). restart cap rows weights o r) (sym t.owners-are)
 
-  pub pass-made : filter (open_to cap weights m.owners r) (front_of rows m r) ≡ [] → restart cap rows weights m.owners r ≡ none → Made m 0
+  pub pass-made : filter (open_to cap weights m.owners r) (front_of rows m r) ≡ [] → restart cap rows weights m.owners r ≡ none → Made m Pass
   pass-made e a =
       let p = turn-passes cap rows weights s r (first_popped cap rows weights s r [] (theirs [] e)) (restart-theirs ∙ a) in
       (sym (ap kind_of p.0), subst (Stands cap rows weights k m) (sym p.1) (stands-pass r q t e pf (rest-stay cap rows weights s r [] (theirs [] e))))
@@ -228,7 +230,7 @@ module _ {cap : ℕ} {rows : List (List ℕ)} {weights : List ℕ} {k : ℕ} {m 
   module _ (m' : Memory) (g : ℕ) (kn : k < unassigned) (u : at m.owners g ≡ unassigned) (eo : m'.owners ≡ set m.owners g r)
       (here : front_of rows m' r ≡ front_of rows m r ++ row rows g)
       (there : (d : ℕ) → d < k → (d ≡ r → ⊥) → front_of rows m' d ≡ front_of rows m d) where
-    pub claim-made : (xs : List ℕ) → filter (open_to cap weights m.owners r) (front_of rows m r) ≡ g ∷ xs → Made m' 1
+    pub claim-made : (xs : List ℕ) → filter (open_to cap weights m.owners r) (front_of rows m r) ≡ g ∷ xs → Made m' Claim
     claim-made xs e =
         let th = theirs (g ∷ xs) e in
         let p = turn-claims cap rows weights s r g (first_popped cap rows weights s r (g ∷ xs) th) in (
@@ -238,7 +240,7 @@ module _ {cap : ℕ} {rows : List (List ℕ)} {weights : List ℕ} {k : ℕ} {m 
               (same-popped r q t m' g kn u eo here there xs pf e (ours xs pf (rest-stay cap rows weights s r (g ∷ xs) th)))),
         )
 
-    pub restart-made : filter (open_to cap weights m.owners r) (front_of rows m r) ≡ [] → restart cap rows weights m.owners r ≡ some g → Made m' 2
+    pub restart-made : filter (open_to cap weights m.owners r) (front_of rows m r) ≡ [] → restart cap rows weights m.owners r ≡ some g → Made m' Restart
     restart-made e a =
         let th = theirs [] e in
         let p = turn-restarts cap rows weights s r g (first_popped cap rows weights s r [] th) (restart-theirs ∙ a) in (

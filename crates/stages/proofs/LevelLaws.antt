@@ -7,10 +7,9 @@ use lib.ListN.{length}
 use Rattle.links.specs.Lists.{at, All}
 use Rattle.links.specs.Parts.{part, Kept}
 use Rattle.links.specs.Graph.{row, degree, vertex_count}
-use Rattle.links.proofs.PartLaws.{length_part, get_or-part, kept-part-before}
+use Rattle.links.proofs.PartLaws.{length_part, get_or-part, part-part, kept-part-before}
 use Rattle.links.proofs.RowLaws.{length-rows, row_is, length-row, row_at, row_below, offsets-fit, offsets-rise}
-use Rattle.stages.specs.Level.{offsets_at, neighbors_at, rows_at, weights_at, group_at, owners_at, Laid, Ready}
-use Rattle.stages.specs.CoarsenCode.{resized}
+use Rattle.stages.specs.Level.{offsets_at, neighbors_at, rows_at, weights_at, group_at, owners_at, Laid, Ready, resized}
 use Rattle.stages.specs.declared.level.HierarchyLevel.{HierarchyLevel}
 
 module _ {w : List ℕ} {l : HierarchyLevel} {end : ℕ} (r : Ready w l end) where
@@ -40,12 +39,6 @@ module _ {w : List ℕ} {l : HierarchyLevel} {end : ℕ} (r : Ready w l end) whe
   -- where a number of a part lies
   pub offset-place : (v : ℕ) → v ≤ l.vertices → at (offsets_at w l) v ≡ at w (l.offsets + v)
   offset-place v h = get_or-part w l.offsets (l.offsets + (l.vertices + 1)) v (omega arith)
-
-  pub neighbor-place : (i : ℕ) → i < l.entries → at (neighbors_at w l) i ≡ at w (l.neighbors + i)
-  neighbor-place i h = get_or-part w l.neighbors (l.neighbors + l.entries) i (omega arith)
-
-  pub weight-place : (v : ℕ) → v < l.vertices → at (weights_at w l) v ≡ at w (l.weights + v)
-  weight-place v h = get_or-part w l.weights (l.weights + l.vertices) v (omega arith)
 
   pub owner-place : (v : ℕ) → v < l.vertices → at (owners_at w l) v ≡ at w (l.owners + v)
   owner-place v h = get_or-part w l.owners (l.owners + l.vertices) v (omega arith)
@@ -81,8 +74,25 @@ module _ {w : List ℕ} {l : HierarchyLevel} {end : ℕ} (r : Ready w l end) whe
     pub row-rises : from ≤ to
     row-rises = offsets-rise (offsets_at w l) (neighbors_at w l) r.lists v (v + 1) (omega arith) (omega (arith, count-vertices))
 
+    -- its two offsets in the slice
+    pub degree_apart : degree (rows_at w l) v ≡ at w (l.offsets + (v + 1)) - at w (l.offsets + v)
+    degree_apart = degree-is ∙ rw (offset-place v (omega arith), offset-place (v + 1) (omega arith))
+
     pub row_ends : to ≤ l.entries
     row_ends = omega (arith, offsets-fit (offsets_at w l) (neighbors_at w l) r.lists (v + 1) (omega (arith, count-vertices)), length-neighbors)
+
+    -- the row is a part of the slice, between its two offsets there
+    pub row_cut
+        : (at w (l.offsets + v) ≤ at w (l.offsets + (v + 1)))
+        × (l.neighbors + at w (l.offsets + (v + 1)) ≤ length w)
+        × (row (rows_at w l) v ≡ part w (l.neighbors + at w (l.offsets + v)) (l.neighbors + at w (l.offsets + (v + 1))))
+    row_cut =
+        let p = offset-place v (omega arith) in
+        let q = offset-place (v + 1) (omega arith) in (
+          omega (arith, row-rises, p, q),
+          omega (arith, row_ends, q, r.laid, r.inside),
+          row-part ∙ part-part w l.neighbors (l.neighbors + l.entries) from to (omega (arith, row_ends)) ∙ rw (p, q),
+        )
 
     pub entry-below : (i : ℕ) → from ≤ i → i < to → at (neighbors_at w l) i < l.vertices
     entry-below i a b =

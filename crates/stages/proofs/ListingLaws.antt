@@ -21,7 +21,7 @@ use Rattle.stages.specs.Keys.{candidate, key_of, higher, filled, Falling}
 use Rattle.stages.specs.MovesCode.{Clear, Tallied}
 use Rattle.stages.specs.SwapsCode.{list_place, list_at, Given, AllSorted, FewTallied, bordering, Offered, Waiting, Met, Offering, OfferedEntry, Listed, Holding}
 use Rattle.stages.specs.declared.swaps.SwapRoom.{SwapRoom}
-use Rattle.stages.proofs.TallyLaws.{any-cons, any-nothing, links-cons, links-none, links-some}
+use Rattle.stages.proofs.TallyLaws.{any-cons, links-cons, links-none, links-some}
 use Rattle.stages.proofs.LevelLaws.{length-neighbors, all-vertices, neighbors-kept, row-part, row_ends, rows-kept, owners-kept, beneath}
 use Rattle.stages.proofs.SwapListLaws.{offer-other, offer-none, offer-some, listed_to, listed_more, links-few, listed-all}
 use Rattle.stages.proofs.SwapsSliceLaws.{rows_short, rows_few, vertices-are}
@@ -369,13 +369,6 @@ abbrev pub border_at : List ℕ → SwapRoom → ℕ → Bool
 border_at w s v = bordering (rows_at w s.level) (owners_at w s.level) v
 
 module _ {w : List ℕ} {s : SwapRoom} {v : ℕ} (g : Given w s) (h : v < s.level.vertices) where
-  pub border-start : border_from w s v (at (offsets_at w s.level) v) ≡ border_at w s v
-  unfolding bordering
-  border-start = ap (any (foreign w s v)) (sym (row-part g.ready v h))
-
-  pub border-end : border_from w s v (at (offsets_at w s.level) (v + 1)) ≡ border_at w s v → false ≡ border_at w s v
-  border-end t = sym (any-nothing (foreign w s v) (neighbors_at w s.level) (at (offsets_at w s.level) (v + 1))) ∙ t
-
   -- a turn
   module _
       (home i r : ℕ) (a : home ≡ at (owners_at w s.level) v) (to : i < at (offsets_at w s.level) (v + 1))

@@ -12,10 +12,10 @@ use Rattle.links.specs.Lists.{at}
 use Rattle.links.specs.Parts.{Kept}
 use Rattle.links.specs.Graph.{load}
 use Rattle.links.proofs.ListLaws.{split}
-use Rattle.links.proofs.PartLaws.{kept_set, kept_refl}
+use Rattle.links.proofs.PartLaws.{kept_set}
 use Rattle.stages.specs.Level.{weights_at, owners_at, Ready}
 use Rattle.stages.specs.declared.level.HierarchyLevel.{HierarchyLevel}
-use Rattle.stages.specs.MovesCode.{Clear, Roomed, Loaded}
+use Rattle.stages.specs.MovesCode.{Roomed, Loaded}
 use Rattle.stages.proofs.LoadSetLaws.{load-next, load-end, load-sum}
 use Rattle.stages.proofs.LevelLaws.{length-weights, length-owners, weights-kept, owners-kept, ready-kept, ready_by, beneath}
 
@@ -34,9 +34,6 @@ module _ {w₀ : List ℕ} {l : HierarchyLevel} {loads ranks : ℕ} (t : Roomed 
 
   below : l.owners ≤ loads
   below = omega (arith, t.ready.laid)
-
-  pub weigh-start : Clear w₀ loads ranks → WeighTo w₀ w₀ l loads ranks 0
-  weigh-start z = record { kept = kept_refl loads (loads + ranks) w₀; sums = λ r h. omega (arith, z r h) }
 
   pub weigh-asks : {w : List ℕ} → Kept loads (loads + ranks) w w₀ → Ready w l (length w)
   weigh-asks {w} k = ready_by (length w) (ready-kept t.ready k (beneath t.ready below)) (omega (arith, t.room, k.same_length)) (omega arith)

@@ -46,17 +46,8 @@ module _ {g : Search} {h : ℕ} {w₀ : List ℕ} {l : HierarchyLevel} {s u t₀
   u-at : u < length g.rows
   u-at = u-in g P.good (from w₀ s) (from w₀ (s + l.vertices)) h t₀ u 0 P.scan
 
-  pub at-distance : s + u < length w₀
-  at-distance = omega (arith, u-at, P.lies.room, P.lies.size)
-
-  pub at_offset : l.offsets + (u + 1) < length w₀
-  at_offset = omega (arith, u-at, P.lies.room, P.lies.size, P.lies.offsets-in)
-
   at-neighbor : (j : ℕ) → j < from w₀ l.offsets (u + 1) → l.neighbors + j < s
   at-neighbor j m = omega (arith, P.lies.entries-in u u-at)
-
-  pub at-neighbor-in : (j : ℕ) → j < from w₀ l.offsets (u + 1) → l.neighbors + j < length w₀
-  at-neighbor-in j m = omega (arith, at-neighbor j m, P.lies.room)
 
   pub begins : ScannedTo g h w₀ w₀ l s u t₀ 0
   begins = record { scan = P.scan; kept = kept_refl s (s + 2 * l.vertices) w₀; same = refl }

@@ -1,25 +1,24 @@
 -- Rule 6's passes in the work slice: what a vertex's turn does to a pass, and a pass to the passes. Assumes nothing.
 use Prim.Native.Nat.{ℕ, ◌+◌, ◌-◌, ◌≤◌, ◌<◌, ◌*◌}
-use mathlib.Core.Path.{◌≡◌, sym, ap, ◌∙◌}
+use mathlib.Core.Path.{◌≡◌, refl, sym, ap, ◌∙◌}
 use mathlib.Core.Bool.{cond}
 use mathlib.Core.List.{List, [], ◌∷◌}
 use native.Mathlib.Omega.{arith}
 use lib.ListN.{length}
 use lib.Dec.{eqb}
-use borrow.Author.Tests.{eqb-true}
-use Rattle.links.proofs.ListLaws.{split}
+use borrow.Author.Tests.{eq-eqb, ne_eqb}
 use Rattle.links.specs.Lists.{foldl}
 use Rattle.links.specs.Parts.{Kept}
 use Rattle.links.specs.Graph.{vertices}
-use Rattle.links.specs.Owners.{from_owners, assignment_number, AssignmentTold}
-use Rattle.links.specs.declared.owners.Assignment.{Assignment}
-use Rattle.links.specs.declared.owners.Assignment.TheVariants as assignment
-use Rattle.stages.specs.declared.moves.Refined.{Refined}
-use Rattle.stages.specs.declared.moves.Refined.TheVariants as refined
+use Rattle.links.specs.Owners.{from_owners}
+use Rattle.std.specs.Prelude.{Result, Ok, Err}
+use Rattle.links.specs.Refusals.{refusal_number, number_of}
+use Rattle.links.specs.declared.refusal.Refusal.{Refusal}
+use Rattle.links.proofs.RefusalLaws.{refusal-some}
 use Rattle.links.proofs.PartLaws.{kept_refl, kept_trans, kept-wide}
 use Rattle.stages.specs.Level.{offsets_at, neighbors_at, rows_at, weights_at, owners_at, Ready, balance_in}
 use Rattle.stages.specs.Moves.{Step, after, move_pass, refine_by_cut}
-use Rattle.stages.specs.MovesCode.{Roomed, Clear, Loaded, Moving, Stepped, moves_at, moved_at, refined_number, refined_value, Refinable, RefinedByCut}
+use Rattle.stages.specs.MovesCode.{Roomed, Clear, Loaded, Moving, Stepped, moves_at, moved_at, refined_value, Refinable, RefinedByCut}
 use Rattle.stages.specs.declared.level.HierarchyLevel.{HierarchyLevel}
 use Rattle.stages.specs.declared.level.Limits.{Limits}
 use Rattle.stages.proofs.CutLaws.{cut-entries, list-entries}
@@ -165,29 +164,6 @@ module _ {w₀ : List ℕ} {l : HierarchyLevel} {scratch : ℕ} (limits : Limits
 
 -- ---- the stage
 
--- an answer by the number of the check
-abbrev pub verdict : ℕ → ℕ → Refined
-verdict number moves = cond (eqb number 0) (refined.Moved moves) (refined.Refused number)
-
-verdict-number : (number moves : ℕ) → refined_number (verdict number moves) ≡ number
-verdict-number number moves = split (eqb number 0) (λ p. rw p (sym (eqb-true number 0 p))) (λ p. rw p)
-
-verdict-value : (number moves : ℕ) → refined_value (verdict number moves) ≡ cond (eqb number 0) moves 0
-verdict-value number moves = split (eqb number 0) (λ p. rw p) (λ p. rw p)
-
-verdict-valid : (number moves : ℕ) → assignment.Valid ≡ cond (eqb number 0) assignment.Valid (assignment.Refused number) → refined.Moved moves
-    ≡ verdict number moves
-verdict-valid number moves e = split (eqb number 0)
-    (λ p. rw p)
-    (λ p. let y : assignment.Valid ≡ assignment.Refused number = rw p at e in let z : ◌≡◌ {A = ℕ} 0 1 = cc in absurd (omega arith))
-
-verdict-refused
-    : (n number moves : ℕ) → assignment.Refused n ≡ cond (eqb number 0) assignment.Valid (assignment.Refused number) → refined.Refused n
-    ≡ verdict number moves
-verdict-refused n number moves e = split (eqb number 0)
-    (λ p. let y : assignment.Refused n ≡ assignment.Valid = rw p at e in let z : ◌≡◌ {A = ℕ} 0 1 = cc in absurd (omega arith))
-    (λ p. let y : assignment.Refused n ≡ assignment.Refused number = rw p at e in let z : n ≡ number = cc in rw (p, z))
-
 module _ {w w₁ : List ℕ} {l : HierarchyLevel} {scratch : ℕ} (limits : Limits) (q : Refinable w l scratch limits.ranks) (k₁ : Kept scratch (scratch + 2 * limits.ranks) w₁ w) where
   abbrev many : ℕ
   many = limits.ranks
@@ -243,25 +219,30 @@ module _ {w w₁ : List ℕ} {l : HierarchyLevel} {scratch : ℕ} (limits : Limi
       counted-moves : count ≡ moves
       counted-moves = s.number ∙ ap length (same-moves passes)
 
-      answered : (r : Refined) → r ≡ verdict number moves → RefinedByCut w w₃ l scratch limits passes r
-      answered r e = record {
+      answered
+          : (r : Result ℕ Refusal)
+          → number_of r ≡ number
+          → (number ≡ 0 → r ≡ Ok count)
+          → refined_value r ≡ cond (eqb number 0) moves 0
+          → RefinedByCut w w₃ l scratch limits passes r
+      answered r e f v = record {
         owners = moved;
-        answer = e;
-        number = ap refined_number e ∙ verdict-number number moves;
-        value = ap refined_value e ∙ verdict-value number moves;
+        answer = λ z. f z ∙ ap Ok counted-moves;
+        number = e;
+        value = v;
         ready = s.moving.weighed.ready;
         ranked = s.moving.weighed.ranked;
         kept = kept_trans l.owners (scratch + 2 * many) w₃ w₂ w s.kept
             (kept-wide scratch (scratch + 2 * many) l.owners (scratch + 2 * many) w₂ w low (omega arith) kept);
       }
 
-      module _ (a : Assignment) (t : AssignmentTold many (owners_at w₃ l) a) where
-        told : a ≡ cond (eqb number 0) assignment.Valid (assignment.Refused number)
-        told = rw moved at t.answer
+      -- what the check answered of the owners after the moves
+      pub was-valid : 0 ≡ from_owners many (owners_at w₃ l) → RefinedByCut w w₃ l scratch limits passes (Ok count)
+      was-valid e =
+          let z : 0 ≡ number = rw moved at e in
+          answered (Ok count) z (λ y. refl) (counted-moves ∙ rw (eq-eqb number 0 (sym z)))
 
-        pub was-valid : a ≡ assignment.Valid → RefinedByCut w w₃ l scratch limits passes (refined.Moved count)
-        was-valid e = answered (refined.Moved count) (rw counted-moves (verdict-valid number moves (sym e ∙ told)))
-
-        pub was-refused
-            : (n x : ℕ) → a ≡ assignment.Refused n → x ≡ assignment_number a → RefinedByCut w w₃ l scratch limits passes (refined.Refused x)
-        was-refused n x e k = answered (refined.Refused x) (rw (k, e) (verdict-refused n number moves (sym e ∙ told)))
+      pub was-refused : (x : Refusal) → refusal_number x ≡ from_owners many (owners_at w₃ l) → RefinedByCut w w₃ l scratch limits passes (Err x)
+      was-refused x e =
+          let z : refusal_number x ≡ number = rw moved at e in
+          answered (Err x) z (λ y. absurd (refusal-some x (z ∙ y))) (rw (ne_eqb number 0 (λ y. refusal-some x (z ∙ y))))

@@ -4,28 +4,30 @@ use mathlib.Core.Path.{◌≡◌, sym, ap, ◌∙◌}
 use mathlib.Core.Bool.{Bool, true, false, cond}
 use mathlib.Core.List.{List, [], ◌∷◌, ◌++◌, map, map-append}
 use mathlib.Core.Option.{Option, none, some}
+use Rattle.std.specs.Prelude as code
+use Rattle.std.specs.Prelude.{Some, None}
 use native.Mathlib.Numerals.{add-one}
 use native.Mathlib.Omega.{arith}
 use lib.ListN.{length, set, length-set}
-use lib.Seq.{get_or-set_same, get_or-set_other, ext_get_or}
+use lib.Seq.{get_or-set_same, get_or-set_other, ext_get_or, take_all}
 use lib.Dec.{leb, ltb, eqb}
-use borrow.Author.Tests.{ne_eqb, eqb-true, eqb-false, ltb-true, ltb-false, le-leb, leb-true}
+use borrow.Author.Tests.{eqb-true, eqb-false, ltb-true, ltb-false, le-leb, leb-true}
 use Rattle.links.specs.Lists.{at, All, any, range}
 use Rattle.links.specs.Parts.{part, Kept}
 use Rattle.links.specs.Graph.{row, links_to, load}
 use Rattle.links.proofs.ListLaws.{split, iff-eq, all-to, all-range, foldl-snoc, foldl-in}
 use Rattle.links.proofs.RangeLaws.{range_snoc}
 use Rattle.links.proofs.PartLaws.{kept_set, kept_refl, kept-wide, part-set-in}
-use Rattle.stages.specs.Level.{offsets_at, neighbors_at, rows_at, weights_at, owners_at, Ready, balance_in}
+use Rattle.stages.specs.Level.{rows_at, weights_at, owners_at, Ready, balance_in}
 use Rattle.stages.specs.Moves.{Step, after, may_leave, target, destination, move_pass}
-use Rattle.stages.specs.MovesCode.{Clear, Roomed, Tallied, Weighed, Moving, Shifted, Stepped, tempts, tempting, no_offer, rank_offer, better_offer, best_rank, offered}
+use Rattle.stages.specs.MovesCode.{Clear, Roomed, Tallied, Weighed, Moving, Shifted, Stepped, tempts, tempting, rank_offer, better_offer, best_rank, offered}
 use Rattle.stages.specs.declared.level.HierarchyLevel.{HierarchyLevel}
 use Rattle.stages.specs.declared.level.Limits.{Limits}
 use Rattle.stages.specs.declared.moves.Offer.{Offer}
 use Rattle.stages.proofs.LoadSetLaws.{load-set, load-sum, load-holds}
-use Rattle.stages.proofs.TallyLaws.{part-snoc, any-cons, any-nothing}
+use Rattle.stages.proofs.TallyLaws.{part-snoc, any-cons}
 use Rattle.stages.proofs.TargetLaws.{offer_at, best_offer, target-by-row, target-by-ranks, target-rank, untempted}
-use Rattle.stages.proofs.LevelLaws.{length-neighbors, length-weights, length-owners, all-vertices, row-part, row_ends, rows-kept, weights-kept, owners-kept, ready-kept, ready_by, beneath}
+use Rattle.stages.proofs.LevelLaws.{length-weights, length-owners, all-vertices, neighbor-below, rows-kept, weights-kept, owners-kept, ready-kept, ready_by, beneath}
 
 -- the tallies stand behind the loads
 pub tallies-roomed : {w : List ℕ} {l : HierarchyLevel} {scratch ranks : ℕ} → Weighed w l scratch ranks → Roomed w l (scratch + ranks) ranks
@@ -42,32 +44,45 @@ abbrev tempter : List ℕ → HierarchyLevel → Limits → ℕ → ℕ → Bool
 tempter w l limits v u =
     tempts limits.cap (at (weights_at w l) v) (load (weights_at w l) (owners_at w l) (at (owners_at w l) u)) (at (owners_at w l) v) (at (owners_at w l) u)
 
--- and one of those from entry i on
+-- and one of those from the i-th on
 abbrev pub tempted_from : List ℕ → HierarchyLevel → Limits → ℕ → ℕ → Bool
-tempted_from w l limits v i = any (tempter w l limits v) (part (neighbors_at w l) i (at (offsets_at w l) (v + 1)))
+tempted_from w l limits v i = any (tempter w l limits v) (part (row (rows_at w l) v) i (length (row (rows_at w l) v)))
 
 abbrev pub tempted_at : List ℕ → HierarchyLevel → Limits → ℕ → Bool
 tempted_at w l limits v = tempting (balance_in limits) (rows_at w l) (weights_at w l) (owners_at w l) v
 
-module _ {w : List ℕ} {l : HierarchyLevel} {scratch : ℕ} (limits : Limits) (q : Weighed w l scratch limits.ranks) (v : ℕ) (h : v < l.vertices) where
-  pub tempted-start : tempted_from w l limits v (at (offsets_at w l) v) ≡ tempted_at w l limits v
-  unfolding tempting
-  tempted-start = ap (any (tempter w l limits v)) (sym (row-part q.ready v h))
+-- all of a list
+whole-part : (xs : List ℕ) → part xs 0 (length xs) ≡ xs
+whole-part xs = let z : length xs - 0 ≡ length xs = omega arith in rw z (take_all (length xs) xs (omega arith))
 
-  pub tempted-end : tempted_from w l limits v (at (offsets_at w l) (v + 1)) ≡ tempted_at w l limits v → false ≡ tempted_at w l limits v
-  tempted-end t = sym (any-nothing (tempter w l limits v) (neighbors_at w l) (at (offsets_at w l) (v + 1))) ∙ t
+-- a neighbor's owner is a rank
+pub owner-ranked
+    : {w : List ℕ} {l : HierarchyLevel} {scratch ranks : ℕ} (q : Weighed w l scratch ranks) (v : ℕ)
+    → v < l.vertices
+    → (us : List ℕ)
+    → us ≡ row (rows_at w l) v
+    → (i : ℕ)
+    → i < length us
+    → (at us i < l.vertices) × (at (owners_at w l) (at us i) < ranks)
+owner-ranked q v h us e i k =
+    let u = neighbor-below q.ready v h i (rw e at k) in rw e (u, q.ranked _ u)
+
+module _ {w : List ℕ} {l : HierarchyLevel} {scratch : ℕ} (limits : Limits) (q : Weighed w l scratch limits.ranks) (v : ℕ) where
+  pub tempted-start : tempted_from w l limits v 0 ≡ tempted_at w l limits v
+  unfolding tempting
+  tempted-start = ap (any (tempter w l limits v)) (whole-part (row (rows_at w l) v))
 
   -- a turn
   module _
-      (home weight i r : ℕ) (a : home ≡ at (owners_at w l) v) (b : weight ≡ at (weights_at w l) v) (to : i < at (offsets_at w l) (v + 1))
-      (c : r ≡ at (owners_at w l) (at (neighbors_at w l) i)) (d : r < limits.ranks) (x : Bool)
+      (home weight i r : ℕ) (a : home ≡ at (owners_at w l) v) (b : weight ≡ at (weights_at w l) v) (to : i < length (row (rows_at w l) v))
+      (c : r ≡ at (owners_at w l) (at (row (rows_at w l) v) i)) (d : r < limits.ranks) (x : Bool)
       (e : x ≡ tempts limits.cap weight (at w (scratch + r)) home r) (t : tempted_from w l limits v i ≡ tempted_at w l limits v) where
-    tempter-is : tempter w l limits v (at (neighbors_at w l) i) ≡ x
+    tempter-is : tempter w l limits v (at (row (rows_at w l) v) i) ≡ x
     tempter-is = rw (← c, ← a, ← b, ← q.loaded r d) (sym e)
 
     one : tempted_from w l limits v i ≡ cond x true (tempted_from w l limits v (i + 1))
     one =
-        any-cons (tempter w l limits v) (neighbors_at w l) i (at (offsets_at w l) (v + 1)) to (omega (arith, row_ends q.ready v h, length-neighbors q.ready))
+        any-cons (tempter w l limits v) (row (rows_at w l) v) i (length (row (rows_at w l) v)) to (omega arith)
         ∙ ap (λ (y : Bool). cond y true (tempted_from w l limits v (i + 1))) tempter-is
 
     pub tempted-here : x ≡ true → true ≡ tempted_at w l limits v
@@ -78,25 +93,22 @@ module _ {w : List ℕ} {l : HierarchyLevel} {scratch : ℕ} (limits : Limits) (
 
 -- ---- the best offer
 
--- the best offer of the owners of v's neighbors as far as entry i
-abbrev pub best_to : List ℕ → HierarchyLevel → Limits → ℕ → ℕ → Offer
+-- the best offer of the owners of v's first i neighbors
+abbrev pub best_to : List ℕ → HierarchyLevel → Limits → ℕ → ℕ → code.Option Offer
 best_to w l limits v i =
-    best_offer (balance_in limits) (rows_at w l) (weights_at w l) (owners_at w l) v (map (at (owners_at w l)) (part (neighbors_at w l) (at (offsets_at w l) v) i))
+    best_offer (balance_in limits) (rows_at w l) (weights_at w l) (owners_at w l) v (map (at (owners_at w l)) (part (row (rows_at w l) v) 0 i))
 
 -- one rank more
 pub rank-turn
-    : (w : List ℕ) (scratch : ℕ) (limits : Limits) (weight home r : ℕ) (best o best' : Offer)
+    : (w : List ℕ) (scratch : ℕ) (limits : Limits) (weight home r : ℕ) (best o best' : code.Option Offer)
     → best ≡ best_rank w scratch limits weight home r
     → o ≡ rank_offer w scratch limits weight home r
     → best' ≡ better_offer best o
     → best' ≡ best_rank w scratch limits weight home (r + 1)
 rank-turn w scratch limits weight home r best o best' f g k =
-    let step : Offer → ℕ → Offer = λ x s. better_offer x (rank_offer w scratch limits weight home s) in
+    let step : code.Option Offer → ℕ → code.Option Offer = λ x s. better_offer x (rank_offer w scratch limits weight home s) in
     let s : range 0 (r + 1) ≡ range 0 r ++ (r ∷ []) = ap (range 0) (add-one r) ∙ range_snoc 0 r r (omega arith) in
-    k ∙ rw (f, g) (sym (foldl-snoc step no_offer (range 0 r) r s))
-
-pub best-start : (w : List ℕ) (l : HierarchyLevel) (limits : Limits) (v : ℕ) → best_to w l limits v (at (offsets_at w l) v) ≡ no_offer
-best-start w l limits v = let e : at (offsets_at w l) v - at (offsets_at w l) v ≡ 0 = omega arith in rw e
+    k ∙ rw (f, g) (sym (foldl-snoc step None (range 0 r) r s))
 
 module _ {w : List ℕ} {l : HierarchyLevel} {scratch : ℕ} (limits : Limits) (q : Weighed w l scratch limits.ranks) (v : ℕ) (h : v < l.vertices) where
   abbrev rows : List (List ℕ)
@@ -125,27 +137,25 @@ module _ {w : List ℕ} {l : HierarchyLevel} {scratch : ℕ} (limits : Limits) (
 
     -- a turn
     pub best-turn
-        : (mine weight home i r : ℕ) (best o best' : Offer)
+        : (mine weight home i r : ℕ) (best o best' : code.Option Offer)
         → mine ≡ at os v
         → weight ≡ at ws v
         → home ≡ at w (tallies + mine)
-        → at (offsets_at w l) v ≤ i
-        → i < at (offsets_at w l) (v + 1)
-        → r ≡ at os (at (neighbors_at w l) i)
+        → i < length (row rows v)
+        → r ≡ at os (at (row rows v) i)
         → r < limits.ranks
         → best ≡ best_to w l limits v i
         → o ≡ rank_offer w scratch limits weight home r
         → best' ≡ better_offer best o
         → best' ≡ best_to w l limits v (i + 1)
-    best-turn mine weight home i r best o best' a b c from to d e f g k =
-        let step : Offer → ℕ → Offer = λ x r. better_offer x (offer_at (balance_in limits) rows ws os v r) in
-        let us = part (neighbors_at w l) (at (offsets_at w l) v) i in
-        let s : part (neighbors_at w l) (at (offsets_at w l) v) (i + 1) ≡ us ++ (at (neighbors_at w l) i ∷ []) =
-        part-snoc (neighbors_at w l) (at (offsets_at w l) v) i from (omega (arith, row_ends q.ready v h, length-neighbors q.ready)) in
-        let m : map (at os) (part (neighbors_at w l) (at (offsets_at w l) v) (i + 1)) ≡ map (at os) us ++ (r ∷ []) =
-        ap (map (at os)) s ∙ map-append (at os) us (at (neighbors_at w l) i ∷ []) ∙ ap (λ (x : ℕ). map (at os) us ++ (x ∷ [])) (sym d) in
+    best-turn mine weight home i r best o best' a b c to d e f g k =
+        let step : code.Option Offer → ℕ → code.Option Offer = λ x r. better_offer x (offer_at (balance_in limits) rows ws os v r) in
+        let us = part (row rows v) 0 i in
+        let s : part (row rows v) 0 (i + 1) ≡ us ++ (at (row rows v) i ∷ []) = part-snoc (row rows v) 0 i (omega arith) to in
+        let m : map (at os) (part (row rows v) 0 (i + 1)) ≡ map (at os) us ++ (r ∷ []) =
+        ap (map (at os)) s ∙ map-append (at os) us (at (row rows v) i ∷ []) ∙ ap (λ (x : ℕ). map (at os) us ++ (x ∷ [])) (sym d) in
         k ∙ rw (f, g ∙ offer-is mine weight home r a b c e)
-        (sym (foldl-snoc step no_offer (map (at os) us) r m))
+        (sym (foldl-snoc step None (map (at os) us) r m))
 
     -- all ranks met
     pub ranks-end
@@ -160,7 +170,7 @@ module _ {w : List ℕ} {l : HierarchyLevel} {scratch : ℕ} (limits : Limits) (
         (λ x r. better_offer x (rank_offer w scratch limits weight home r))
         (λ x r. better_offer x (offer_at (balance_in limits) rows ws os v r))
         (λ x r d. ap (better_offer x) (offer-is mine weight home r a b c d))
-        (range 0 limits.ranks) no_offer
+        (range 0 limits.ranks) None
         (all-range (λ r. r < limits.ranks) 0 limits.ranks (λ r m n. omega arith)))
         ∙ target-by-ranks (balance_in limits) rows ws os v
 
@@ -170,8 +180,8 @@ module _ {w : List ℕ} {l : HierarchyLevel} {scratch : ℕ} (limits : Limits) (
       all-to (λ u. u < length rows) (λ u. at os u < limits.ranks) (λ u k. q.ranked u (omega (arith, n))) (row rows v)
       (q.ready.lists.sound.below v (omega (arith, n)))
 
-  pub best-end : offered (best_to w l limits v (at (offsets_at w l) (v + 1))) ≡ target (balance_in limits) rows ws os v
-  best-end = rw (← row-part q.ready v h) (target-by-row (balance_in limits) rows ws os v row-ranked)
+  pub best-end : offered (best_to w l limits v (length (row rows v))) ≡ target (balance_in limits) rows ws os v
+  best-end = rw (whole-part (row rows v)) (target-by-row (balance_in limits) rows ws os v row-ranked)
 
 -- ---- whether it may leave
 
@@ -305,7 +315,7 @@ pub no-offer
     : (limits : Limits) (rows : List (List ℕ)) (weights owners : List ℕ) (v : ℕ) (r : Bool)
     → r ≡ tempting (balance_in limits) rows weights owners v
     → r ≡ false
-    → offered no_offer ≡ target (balance_in limits) rows weights owners v
+    → offered None ≡ target (balance_in limits) rows weights owners v
 unfolding offered
 no-offer limits rows weights owners v r e f = sym (untempted (balance_in limits) rows weights owners v (sym e ∙ f))
 
@@ -374,34 +384,33 @@ module _ {w : List ℕ} {l : HierarchyLevel} {scratch : ℕ} (limits : Limits) (
   unfolding move_pass destination
   may-not r d f = let e : leaving ≡ false = sym d ∙ f in stays (rw e)
 
-  pub nowhere : (r : Bool) → r ≡ leaving → r ≡ true → (o : Offer) → offered o ≡ goal → o.gain ≡ 0 → Stepped w w l scratch limits.ranks steps 0
+  pub nowhere : (r : Bool) → r ≡ leaving → r ≡ true → offered None ≡ goal → Stepped w w l scratch limits.ranks steps 0
   unfolding move_pass destination offered
-  nowhere r d y o f g =
+  nowhere r d y f =
       let e : leaving ≡ true = sym d ∙ y in
-      let t : goal ≡ none = sym f ∙ rw g in
+      let t : goal ≡ none = sym f in
       stays (rw (e, t))
 
-  offer-taken : (o : Offer) → offered o ≡ goal → (o.gain ≡ 0 → ⊥) → goal ≡ some o.rank
+  offer-taken : (o : Offer) → offered (Some o) ≡ goal → goal ≡ some o.rank
   unfolding offered
-  offer-taken o f g = sym f ∙ rw (ne_eqb o.gain 0 g)
+  offer-taken o f = sym f
 
-  pub goes_in : (o : Offer) → offered o ≡ goal → (o.gain ≡ 0 → ⊥) → o.rank < limits.ranks
-  goes_in o f g = target-rank (balance_in limits) (rows_at w l) (weights_at w l) (owners_at w l) v o.rank (offer-taken o f g)
+  pub goes_in : (o : Offer) → offered (Some o) ≡ goal → o.rank < limits.ranks
+  goes_in o f = target-rank (balance_in limits) (rows_at w l) (weights_at w l) (owners_at w l) v o.rank (offer-taken o f)
 
   pub goes
       : (r : Bool)
       → r ≡ leaving
       → r ≡ true
       → (o : Offer)
-      → offered o ≡ goal
-      → (o.gain ≡ 0 → ⊥)
+      → offered (Some o) ≡ goal
       → (w' : List ℕ)
       → Shifted w w' l scratch limits.ranks v o.rank
       → Stepped w w' l scratch limits.ranks steps 1
   unfolding move_pass destination after
-  goes r d y o f g w' s =
+  goes r d y o f w' s =
       let e : leaving ≡ true = sym d ∙ y in
-      let t = offer-taken o f g in
+      let t = offer-taken o f in
       record {
         owners = rw (e, t) s.owners;
         number = rw (e, t);

@@ -9,8 +9,10 @@ use lib.Dec.{eqb, ltb}
 use lib.ListN.{length, set}
 use lib.Seq.{get_or-set_other, ext_get_or}
 use borrow.Author.Tests.{eq-eqb, ne_eqb, eqb-true, eqb-false, lt-ltb, le-ltb}
+use Rattle.std.specs.Prelude.{Option as Given, Some, None, IfSome, unwrap_or}
+use Rattle.stages.specs.Found.{found}
+use Rattle.links.proofs.BestLaws.{step as step_of}
 use Rattle.links.specs.Lists.{at, All, unassigned, filter, best, best_from, range, elem, above}
-use Rattle.links.specs.Best.{held, step_best}
 use Rattle.links.specs.Parts.{part, filled_part, Kept}
 use Rattle.links.specs.Graph.{row, degree, vertices, vertex_count, Sound}
 use Rattle.links.proofs.ListLaws.{split, all_filter, all-range, filter_none, best_none, best-all, best-kept, not-of, iff-eq}
@@ -19,7 +21,7 @@ use Rattle.links.proofs.RowLaws.{length-row, row_at, offsets-fit}
 use Rattle.links.proofs.RangeLaws.{filter-ext}
 use Rattle.stages.specs.Level.{Ready, offsets_at, neighbors_at, rows_at}
 use Rattle.stages.specs.Seeds.{distances, next_seed, farthest_seeds, farther}
-use Rattle.stages.specs.SeedsCode.{from, Search, Searchable, Lies, Lowerable, Lowered, ahead, unseeded, farthest, degree_at, Choosing, Seedable, SeededTo, Seeded}
+use Rattle.stages.specs.SeedsCode.{from, Search, Searchable, Lies, Lowerable, Lowered, ahead, unseeded, farther_of, farthest, degree_at, Choosing, Seedable, SeededTo, Seeded}
 use Rattle.stages.specs.declared.level.HierarchyLevel.{HierarchyLevel}
 use Rattle.stages.proofs.DistanceLaws.{passing-gap, passing-in, unique, distances-hold, distances-length}
 use Rattle.stages.proofs.GrowthLaws.{length-seeds}
@@ -28,51 +30,71 @@ use Rattle.stages.proofs.LoweringLaws.{lies-kept}
 
 -- ---- the code's choice of the next seed
 
--- the cases of the code's step, at p and q that equal i and b
-module _ (d deg : ℕ → ℕ) (b i p q : ℕ) (ep : p ≡ i) (eq : q ≡ b) where
-  pub far-seed : d p ≡ 0 → b ≡ step_best (ahead d deg) (unseeded d) b i
-  unfolding step_best
-  far-seed e = rw (eq-eqb (d i) 0 (sym (ap d ep) ∙ e))
+-- the cases of the code's step
+module _ (d deg : ℕ → ℕ) (i : ℕ) where
+  pub far-seed : (o : Given ℕ) → d i ≡ 0 → o ≡ farther_of d deg o i
+  unfolding farther_of
+  far-seed None e = rw (eq-eqb (d i) 0 e)
+  far-seed (Some b) e = rw (eq-eqb (d i) 0 e)
 
-  pub far_none : (d p ≡ 0 → ⊥) → b ≡ unassigned → i ≡ step_best (ahead d deg) (unseeded d) b i
-  unfolding step_best
-  far_none e f = rw (ne_eqb (d i) 0 (λ z. e (ap d ep ∙ z)), eq-eqb b unassigned f)
+  pub far_none : (d i ≡ 0 → ⊥) → Some i ≡ farther_of d deg None i
+  unfolding farther_of
+  far_none e = rw (ne_eqb (d i) 0 e)
 
-  module _ (e : d p ≡ 0 → ⊥) (f : b ≡ unassigned → ⊥) where
-    far-is : (x : Bool) → ahead d deg i b ≡ x → cond x i b ≡ step_best (ahead d deg) (unseeded d) b i
-    unfolding step_best
-    far-is x g = rw (ne_eqb (d i) 0 (λ z. e (ap d ep ∙ z)), ne_eqb b unassigned f, g)
+  module _ (b : ℕ) (e : d i ≡ 0 → ⊥) where
+    far-is : (x : Bool) → ahead d deg i b ≡ x → Some (cond x i b) ≡ farther_of d deg (Some b) i
+    unfolding farther_of
+    far-is x g = rw (ne_eqb (d i) 0 e, g)
 
-    pub far-more : d q < d p → i ≡ step_best (ahead d deg) (unseeded d) b i
-    far-more h = far-is true (rw (lt-ltb (d b) (d i) (omega (arith, ap d ep, ap d eq))))
+    pub far-more : d b < d i → Some i ≡ farther_of d deg (Some b) i
+    far-more h = far-is true (rw (lt-ltb (d b) (d i) h))
 
-    pub far-less : d p ≤ d q → (d p ≡ d q → ⊥) → b ≡ step_best (ahead d deg) (unseeded d) b i
-    far-less h k =
-        far-is false
-        (rw (le-ltb (d b) (d i) (omega (arith, ap d ep, ap d eq)), ne_eqb (d i) (d b) (λ z. k (ap d ep ∙ z ∙ sym (ap d eq)))))
+    pub far-less : d i ≤ d b → (d i ≡ d b → ⊥) → Some b ≡ farther_of d deg (Some b) i
+    far-less h k = far-is false (rw (le-ltb (d b) (d i) h, ne_eqb (d i) (d b) k))
 
-    module _ (h : d p ≡ d q) where
-      same : eqb (d i) (d b) ≡ true
-      same = eq-eqb (d i) (d b) (omega (arith, ap d ep, ap d eq))
+    pub far-degree : d i ≡ d b → deg b < deg i → Some i ≡ farther_of d deg (Some b) i
+    far-degree h k = far-is true (rw (le-ltb (d b) (d i) (omega arith), eq-eqb (d i) (d b) h, lt-ltb (deg b) (deg i) k))
 
-      not_more : ltb (d b) (d i) ≡ false
-      not_more = le-ltb (d b) (d i) (omega (arith, ap d ep, ap d eq))
+    pub far-tie : d i ≡ d b → deg i ≤ deg b → Some b ≡ farther_of d deg (Some b) i
+    far-tie h k = far-is false (rw (le-ltb (d b) (d i) (omega arith), eq-eqb (d i) (d b) h, le-ltb (deg b) (deg i) k))
 
-      pub far-degree : deg b < deg i → i ≡ step_best (ahead d deg) (unseeded d) b i
-      far-degree k = far-is true (rw (not_more, same, lt-ltb (deg b) (deg i) k))
+  -- the step is the definition's
+  pub far-step : (o : Given ℕ) → found (farther_of d deg o i) ≡ step_of (ahead d deg) (unseeded d) (found o) i
+  unfolding farther_of
+  far-step None = go (unseeded d i)
+    where
+      go : (x : Bool) → found (cond x (Some i) None) ≡ cond x (some i) none
+      go true = refl
+      go false = refl
+  far-step (Some b) = go (unseeded d i)
+    where
+      go : (x : Bool) → found (cond x (Some (cond (ahead d deg i b) i b)) (Some b)) ≡ cond x (some (cond (ahead d deg i b) i b)) (some b)
+      go true = refl
+      go false = refl
 
-      pub far-tie : deg i ≤ deg b → b ≡ step_best (ahead d deg) (unseeded d) b i
-      far-tie k = far-is false (rw (not_more, same, le-ltb (deg b) (deg i) k))
+  -- it stays in range
+  pub far-in : (o : Given ℕ) (n : ℕ) → i < n → IfSome o (λ b. b < n) → IfSome (farther_of d deg o i) (λ b. b < n)
+  unfolding farther_of
+  far-in None n h r = go (unseeded d i)
+    where
+      go : (x : Bool) → IfSome (cond x (Some i) None) (λ b. b < n)
+      go true = h
+      go false = tt
+  far-in (Some b) n h r = go (unseeded d i) (ahead d deg i b)
+    where
+      go : (x y : Bool) → IfSome (cond x (Some (cond y i b)) (Some b)) (λ b. b < n)
+      go true true = h
+      go true false = r
+      go false y = r
 
 -- the end of the loop
-module _ (d deg : ℕ → ℕ) (n b : ℕ) (e : held b ≡ best (ahead d deg) (filter (unseeded d) (range 0 n))) where
-  pub far-end : b ≡ unassigned → 0 ≡ farthest d deg n
-  unfolding farthest
-  far-end f = let h : held b ≡ none = rw (eq-eqb b unassigned f) in ap (λ (o : Option ℕ). get_or o 0) (sym h ∙ e)
-
-  pub far-found : (b ≡ unassigned → ⊥) → b ≡ farthest d deg n
-  unfolding farthest
-  far-found f = let h : held b ≡ some b = rw (ne_eqb b unassigned f) in ap (λ (o : Option ℕ). get_or o 0) (sym h ∙ e)
+pub far-end
+    : (d deg : ℕ → ℕ) (n : ℕ) (o : Given ℕ)
+    → found o ≡ best (ahead d deg) (filter (unseeded d) (range 0 n))
+    → unwrap_or o 0 ≡ farthest d deg n
+unfolding farthest
+far-end d deg n None e = ap (λ (o : Option ℕ). get_or o 0) e
+far-end d deg n (Some b) e = ap (λ (o : Option ℕ). get_or o 0) e
 
 -- ---- the code's choice is rule 4's
 

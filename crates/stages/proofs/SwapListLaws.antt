@@ -10,9 +10,8 @@ use native.Mathlib.Nat.{mul-le-mul_right}
 use lib.Dec.{eqb, ltb}
 use lib.ListN.{length, take, length-append, length-take, length-map}
 use lib.Seq.{take-take, take-nil, take_all}
-use borrow.Author.Tests.{lt-ltb, le-ltb}
+use borrow.Author.Tests.{lt-ltb}
 use Rattle.links.specs.Lists.{at, All, filter, foldl, insert, sort_by, range, concat_map}
-use Rattle.links.specs.Parts.{part}
 use Rattle.links.specs.Loads.{Balance}
 use Rattle.links.specs.Graph.{row, vertices, links_in, links_to}
 use Rattle.links.proofs.ListLaws.{split, foldl-snoc, length-insert, count-length, all_take, all-sort, all_map, all_filter, all-to, all-concat, all-range, filter-append}
@@ -315,14 +314,7 @@ module _ (rows : List (List ℕ)) (x y m o : ℕ) (e : o ≡ linked rows (vertex
   unfolding proposed
   propose-yes s l = rw (product, lt-ltb 0 (gain_of x + gain_of y - (32768 + 2 * o)) (omega arith))
 
-  pub propose-no : (s : List Proposal) → gain_of x + gain_of y ≤ 32768 + 2 * o → proposed m rows x s y ≡ s
-  unfolding proposed
-  propose-no s l = rw (product, le-ltb 0 (gain_of x + gain_of y - (32768 + 2 * o)) (omega arith))
-
 -- ---- whether a swap applies
-
-pub part-whole : (xs : List ℕ) → part xs 0 (length xs) ≡ xs
-part-whole xs = take_all (length xs - 0) xs (omega arith)
 
 module _ (rows : List (List ℕ)) (owners : List ℕ) (u v a b there₁ joined₁ x there₂ joined₂ y home₁ home₂ r : ℕ) where
   -- a swap's gain, reckoned in the code's order
@@ -341,23 +333,6 @@ module _ (rows : List (List ℕ)) (owners : List ℕ) (u v a b there₁ joined�
       → r ≡ gain rows owners (swap u v)
   unfolding gain
   gain-of a1 a2 a3 a4 a5 a6 a7 a8 a9 a10 a11 = cc
-
--- the five tests, one after the other
-module _ (a p q r s t : Bool) (e : a ≡ (p && q && r && s && t)) where
-  pub test-1 : p ≡ false → false ≡ a
-  test-1 h = sym (e ∙ rw h)
-
-  pub test-2 : p ≡ true → q ≡ false → false ≡ a
-  test-2 h k = sym (e ∙ rw (h, k))
-
-  pub test-3 : p ≡ true → q ≡ true → r ≡ false → false ≡ a
-  test-3 h k l = sym (e ∙ rw (h, k, l))
-
-  pub test-4 : p ≡ true → q ≡ true → r ≡ true → s ≡ false → false ≡ a
-  test-4 h k l m = sym (e ∙ rw (h, k, l, m))
-
-  pub test-5 : (x : Bool) → p ≡ true → q ≡ true → r ≡ true → s ≡ true → x ≡ t → x ≡ a
-  test-5 x h k l m n = n ∙ sym (e ∙ rw (h, k, l, m))
 
 -- ---- proposals taken one by one
 

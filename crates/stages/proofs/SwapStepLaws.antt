@@ -282,11 +282,6 @@ module _ {w : List ℕ} {s : SwapRoom} (t : Standing w s) (u v : ℕ) (h : u < s
 -- ---- the test of the loads
 
 module _ {w : List ℕ} {s : SwapRoom} (t : Standing w s) where
-  pub load-in : (v r : ℕ) → v < s.level.vertices → r ≡ at (owners_at w s.level) v → s.loads + r < length w
-  load-in v r h e =
-      let k : r < s.limits.ranks = rw e (t.given.ranked v h) in
-      omega (arith, t.given.loads-in, t.given.tallies-in, t.given.lists-in)
-
   pub load_at : (v r : ℕ) → v < s.level.vertices → r ≡ at (owners_at w s.level) v
       → at w (s.loads + r) ≡ load (weights_at w s.level) (owners_at w s.level) (at (owners_at w s.level) v)
   load_at v r h e = ap (λ (i : ℕ). at w (s.loads + i)) e ∙ t.loaded (at (owners_at w s.level) v) (t.given.ranked v h)

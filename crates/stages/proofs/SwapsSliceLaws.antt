@@ -1,16 +1,14 @@
 -- Rule 7's numbers in the work slice: where they lie, and what stays while others change. Assumes nothing.
 use Prim.Native.Nat.{ℕ, zero, suc, ◌+◌, ◌≤◌, ◌<◌}
-use mathlib.Core.Path.{◌≡◌, ◌∙◌}
-use mathlib.Core.Bool.{true, false, ◌&&◌}
+use mathlib.Core.Path.{◌≡◌}
+use mathlib.Core.Bool.{true, ◌&&◌}
 use mathlib.Core.List.{List}
 use native.Mathlib.Omega.{arith}
 use lib.Dec.{eqb, ltb}
-use borrow.Author.Tests.{lt-ltb, le-ltb}
+use borrow.Author.Tests.{lt-ltb}
 use lib.ListN.{length}
 use Rattle.links.specs.Lists.{at}
-use Rattle.links.specs.Parts.{part}
 use Rattle.links.specs.Graph.{row, strictly_rising}
-use Rattle.links.proofs.PartLaws.{part-part}
 use Rattle.links.proofs.RowLaws.{length-row, row_below, rises-few}
 use Rattle.stages.specs.Level.{offsets_at, neighbors_at, rows_at, weights_at, owners_at, Ready, balance_in}
 use Rattle.stages.specs.Moves.{swap, gain}
@@ -18,13 +16,7 @@ use Rattle.stages.specs.Swaps.{keeps_balance, applies}
 use Rattle.stages.specs.MovesCode.{Roomed}
 use Rattle.stages.specs.SwapsCode.{Given, Marked}
 use Rattle.stages.specs.declared.swaps.SwapRoom.{SwapRoom}
-use Rattle.stages.proofs.LevelLaws.{ready_by, owner-place, count-vertices, length-owners, all-vertices, row-part, row-rises, row_ends}
-
--- what a row's two offsets say
-pub record RowAt (w : List ℕ) (s : SwapRoom) (v x y : ℕ) : Type 0 where
-  pub rises : x ≤ y
-  pub ends : s.level.neighbors + y ≤ length w
-  pub row_is : row (rows_at w s.level) v ≡ part w (s.level.neighbors + x) (s.level.neighbors + y)
+use Rattle.stages.proofs.LevelLaws.{ready_by, owner-place, count-vertices, length-owners, all-vertices, row_ends}
 
 module _ {w : List ℕ} {s : SwapRoom} (g : Given w s) where
   -- the level, with all of the slice
@@ -39,18 +31,6 @@ module _ {w : List ℕ} {s : SwapRoom} (g : Given w s) where
   vertices-are = all-vertices g.ready
 
   module _ (v : ℕ) (h : v < s.level.vertices) where
-    pub row_at : (x y : ℕ) → x ≡ at (offsets_at w s.level) v → y ≡ at (offsets_at w s.level) (v + 1) → RowAt w s v x y
-    row_at x y p q =
-        let l = s.level in
-        record {
-          rises = omega (arith, row-rises g.ready v h);
-          ends = omega (arith, row_ends g.ready v h, g.ready.laid, g.ready.inside);
-          row_is =
-              row-part g.ready v h
-              ∙ part-part w l.neighbors (l.neighbors + l.entries) (at (offsets_at w l) v) (at (offsets_at w l) (v + 1)) (omega (arith, row_ends g.ready v h))
-              ∙ rw (p, q);
-        }
-
     in_rows : v < length (rows_at w s.level)
     in_rows = rw vertices-are h
 
@@ -104,9 +84,6 @@ pub applies-is
     && keeps_balance (balance_in s.limits) (rows_at w s.level) (weights_at w s.level) (owners_at w s.level) (swap u v) (at (owners_at w s.level) v))
 unfolding applies
 applies-is w s used m u v h k = rw (m u h, m v k)
-
-pub gains-not : (g r : ℕ) → r ≡ g → r ≡ 0 → ltb 0 g ≡ false
-gains-not g r e d = le-ltb 0 g (omega arith)
 
 pub gains : (g r : ℕ) → r ≡ g → (r ≡ 0 → ⊥) → ltb 0 g ≡ true
 gains zero r e d = absurd (d e)

@@ -1,7 +1,7 @@
 -- Laws of tallies: a vertex's neighbors counted by their owners, entry by entry. Assumes nothing.
 use Prim.Native.Nat.{ℕ, suc, ◌+◌, ◌-◌, ◌≤◌, ◌<◌}
 use mathlib.Core.Path.{◌≡◌, ap, ◌∙◌}
-use mathlib.Core.Bool.{Bool, true, false, cond}
+use mathlib.Core.Bool.{Bool, true, cond}
 use mathlib.Core.List.{List, [], ◌∷◌, ◌++◌, map}
 use native.Mathlib.Omega.{arith}
 use native.Mathlib.Numerals.{add-one}
@@ -32,9 +32,6 @@ part-cons xs i e h k =
 pub any-cons
     : (p : ℕ → Bool) (xs : List ℕ) (i e : ℕ) → i < e → e ≤ length xs → any p (part xs i e) ≡ cond (p (at xs i)) true (any p (part xs (i + 1) e))
 any-cons p xs i e h k = ap (any p) (part-cons xs i e h k)
-
-pub any-nothing : (p : ℕ → Bool) (xs : List ℕ) (e : ℕ) → any p (part xs e e) ≡ false
-any-nothing p xs e = let z : e - e ≡ 0 = omega arith in rw z
 
 pub links-snoc
     : (xs os : List ℕ) (a i r : ℕ)

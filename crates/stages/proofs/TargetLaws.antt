@@ -6,8 +6,10 @@ use mathlib.Core.Logic.{◌⊎◌, inl, inr, ⊎_elim}
 use mathlib.Core.Bool.{Bool, true, false, ◌&&◌, cond, true≢false, false≢true}
 use mathlib.Core.List.{List, [], ◌∷◌, map}
 use mathlib.Core.Option.{Option, none, some}
+use Rattle.std.specs.Prelude as code
+use Rattle.std.specs.Prelude.{Some, None}
 use native.Mathlib.Omega.{arith}
-use lib.Dec.{leb, ltb, eqb}
+use lib.Dec.{ltb, eqb}
 use borrow.Author.Tests.{eq-eqb, ne_eqb, eqb-true, eqb-false, ltb-true, ltb-false, le-ltb}
 use Rattle.links.specs.Lists.{at, All, above, filter, foldl, best, range, elem}
 use Rattle.links.specs.Loads.{Balance}
@@ -16,7 +18,7 @@ use Rattle.links.proofs.ListLaws.{split, and_l, and_r, Above, is-above, not-abov
 use Rattle.links.proofs.BestLaws.{met, step, left, one_more, all-met}
 use Rattle.stages.specs.declared.moves.Offer.{Offer}
 use Rattle.stages.specs.Moves.{move, gain, may_join, preferred, target}
-use Rattle.stages.specs.MovesCode.{no_offer, offer_of, outbids, better_offer, offered, tempts, tempting}
+use Rattle.stages.specs.MovesCode.{offer_of, outbids, better_offer, offered, tempts, tempting}
 use Rattle.stages.proofs.TallyLaws.{links-some}
 
 nothing : {A : Type 0} (x : ℕ) → ◌≡◌ {A = Option ℕ} none (some x) → A
@@ -181,128 +183,86 @@ module _ (g h : ℕ → ℕ) where
         (λ p. inr (rw p at h.0, h.1)))
         (of-Q s q))
 
--- ---- the code's choice: the best so far is an offer, of gain 0 for none
+-- ---- the code's choice: the best so far, if any, is some rank's own offer
 
-module _ (off : ℕ → Offer) (own : (r : ℕ) → (off r).rank ≡ r) (ok : ℕ → Bool) (opens : (r : ℕ) → ok r ≡ ltb 0 (off r).gain) where
-  abbrev gains : ℕ → ℕ
-  gains r = (off r).gain
+module _ (g h : ℕ → ℕ) (ok : ℕ → Bool) where
+  abbrev pub own_offer : ℕ → Offer
+  own_offer r = record { gain = g r; load = h r; rank = r }
 
-  abbrev loads : ℕ → ℕ
-  loads r = (off r).load
+  module _ (off : ℕ → code.Option Offer) (is : (r : ℕ) → off r ≡ cond (ok r) (Some (own_offer r)) None) where
+    abbrev Held : code.Option Offer → Type 0
+    Held c = (o : Offer) → c ≡ Some o → o ≡ own_offer o.rank
 
-  -- the best so far is none, or some rank's own offer
-  abbrev Held : Offer → Type 0
-  Held o = (o.gain ≡ 0) ⊎ (o ≡ off o.rank)
+    held-step : (c : code.Option Offer) (x : ℕ) → Held c → Held (better_offer c (off x))
+    unfolding better_offer
+    held-step c x k = split (ok x) (λ p. rw (is x, p) (go c k)) (λ p. rw (is x, p) (stay c k))
+      where
+        mine : Held (Some (own_offer x))
+        mine o e = let f : own_offer x ≡ o = cc in rw (← f)
 
-  held-step : (o : Offer) (x : ℕ) → Held o → Held (better_offer o (off x))
-  unfolding better_offer
-  held-step o x h = go (outbids (off x) o)
-    where
-      go : (b : Bool) → Held (cond b (off x) o)
-      go true = inr (ap off (sym (own x)))
-      go false = h
+        pick : (b : Bool) (o : Offer) → Held (Some o) → Held (Some (cond b (own_offer x) o))
+        pick true o k = mine
+        pick false o k = k
 
-  offered-none : (o : Offer) → o.gain ≡ 0 → offered o ≡ none
-  unfolding offered
-  offered-none o e = rw e
+        go : (c : code.Option Offer) → Held c → Held (better_offer c (Some (own_offer x)))
+        go None k = mine
+        go (Some o) k = pick (outbids (own_offer x) o) o k
 
-  offered-some : (o : Offer) → 0 < o.gain → offered o ≡ some o.rank
-  unfolding offered
-  offered-some o h = rw (ne_eqb o.gain 0 (λ e. omega arith))
+        stay : (c : code.Option Offer) → Held c → Held (better_offer c None)
+        stay None k = k
+        stay (Some o) k = k
 
-  offered-step : (o : Offer) (x : ℕ) → Held o → offered (better_offer o (off x)) ≡ step (wins gains loads) ok (offered o) x
-  unfolding better_offer
-  offered-step o x h = split (ltb 0 (gains x))
-      (λ p.
-      let y : ok x ≡ true = opens x ∙ p in
-      let gx : 0 < gains x = ltb-true 0 (gains x) p in
-      let mine : offered (off x) ≡ some x = offered-some (off x) gx ∙ ap some (own x) in
-      split (eqb o.gain 0)
-      (λ q. let z = eqb-true o.gain 0 q in rw (offered-none o z, y, z, p) mine)
-      (λ q.
-      let n = eqb-false o.gain 0 q in
-      let same : o ≡ off o.rank = ⊎_elim (λ e. absurd (n e)) (λ e. e) h in
-      let g : o.gain ≡ gains o.rank = ap (λ (z : Offer). z.gain) same in
-      let d : o.load ≡ loads o.rank = ap (λ (z : Offer). z.load) same in
-      let theirs : offered o ≡ some o.rank = offered-some o (omega arith) in
-      let test : outbids (off x) o ≡ wins gains loads x o.rank = rw (own x, g, d) in
-      rw (theirs, y) (ap (λ (b : Bool). offered (cond b (off x) o)) test ∙ pick (wins gains loads x o.rank) mine theirs)))
-      (λ p.
-      let y : ok x ≡ false = opens x ∙ p in
-      let gx : gains x ≡ 0 = (let l = ltb-false 0 (gains x) p in omega arith) in
-      split (eqb o.gain 0)
-      (λ q. rw y (neither (outbids (off x) o) gx (eqb-true o.gain 0 q)))
-      (λ q.
-      let n = eqb-false o.gain 0 q in
-      rw (y, gx, le-ltb o.gain 0 (omega arith), ne_eqb 0 o.gain (λ e. n (sym e)))))
-    where
-      pick : (b : Bool) → offered (off x) ≡ some x → offered o ≡ some o.rank → offered (cond b (off x) o) ≡ some (cond b x o.rank)
-      pick true e f = e
-      pick false e f = f
+    offered-step : (c : code.Option Offer) (x : ℕ) → Held c → offered (better_offer c (off x)) ≡ step (wins g h) ok (offered c) x
+    unfolding better_offer offered
+    offered-step None x k = split (ok x) (λ p. rw (is x, p)) (λ p. rw (is x, p))
+    offered-step (Some o) x k = split (ok x)
+        (λ p.
+        let e : o ≡ own_offer o.rank = k o refl in
+        let i : o.gain ≡ g o.rank = ap (λ (z : Offer). z.gain) e in
+        let d : o.load ≡ h o.rank = ap (λ (z : Offer). z.load) e in
+        let test : outbids (own_offer x) o ≡ wins g h x o.rank = rw (i, d) in
+        rw (is x, p, test) (pick (wins g h x o.rank)))
+        (λ p. rw (is x, p))
+      where
+        pick : (b : Bool) → offered (Some (cond b (own_offer x) o)) ≡ some (cond b x o.rank)
+        pick true = refl
+        pick false = refl
 
-      neither : (b : Bool) → (off x).gain ≡ 0 → o.gain ≡ 0 → offered (cond b (off x) o) ≡ offered o
-      neither true e f = offered-none (off x) e ∙ sym (offered-none o f)
-      neither false e f = refl
-
-  -- over a list
-  pub offered-list
-      : (xs : List ℕ) (o : Offer) → Held o → offered (foldl (λ b x. better_offer b (off x)) o xs) ≡ foldl (step (wins gains loads) ok) (offered o) xs
-  offered-list [] o h = refl
-  offered-list (x ∷ xs) o h =
-      offered-list xs (better_offer o (off x)) (held-step o x h)
-      ∙ ap (λ (c : Option ℕ). foldl (step (wins gains loads) ok) c xs) (offered-step o x h)
+    -- over a list
+    pub offered-list
+        : (xs : List ℕ) (c : code.Option Offer) → Held c → offered (foldl (λ b x. better_offer b (off x)) c xs) ≡ foldl (step (wins g h) ok) (offered c) xs
+    offered-list [] c k = refl
+    offered-list (x ∷ xs) c k =
+        offered-list xs (better_offer c (off x)) (held-step c x k)
+        ∙ ap (λ (c : Option ℕ). foldl (step (wins g h) ok) c xs) (offered-step c x k)
 
 module _ (b : Balance) (rows : List (List ℕ)) (weights owners : List ℕ) (v : ℕ) where
   -- what rank r offers v
-  abbrev pub offer_at : ℕ → Offer
+  abbrev pub offer_at : ℕ → code.Option Offer
   offer_at r = offer_of b.cap (at weights v) (load weights owners r) (links_to rows owners v r) (links_to rows owners v (at owners v)) r
 
   -- the best of what the listed ranks offer v
-  abbrev pub best_offer : List ℕ → Offer
-  best_offer rs = foldl (λ o r. better_offer o (offer_at r)) no_offer rs
+  abbrev pub best_offer : List ℕ → code.Option Offer
+  best_offer rs = foldl (λ o r. better_offer o (offer_at r)) None rs
 
   abbrev passing : ℕ → Bool
   passing r = ltb 0 (gain rows owners (move v r)) && may_join b rows weights owners v r
 
-  opens : (r : ℕ) → passing r ≡ ltb 0 (offer_at r).gain
+  abbrev gains : ℕ → ℕ
+  gains r = gain rows owners (move v r)
+
+  abbrev loads : ℕ → ℕ
+  loads r = load weights owners r
+
+  opens : (r : ℕ) → offer_at r ≡ cond (passing r) (Some (own_offer gains loads passing r)) None
   unfolding offer_of may_join gain
-  opens r = go (leb (load weights owners r + at weights v) b.cap) (links_to rows owners v r - links_to rows owners v (at owners v))
-    where
-      go : (j : Bool) (n : ℕ) → (ltb 0 n && j) ≡ ltb 0 (cond j n 0)
-      go true n = split (ltb 0 n) (λ p. rw p) (λ p. rw p)
-      go false n = split (ltb 0 n) (λ p. rw p) (λ p. rw p)
+  opens r = refl
 
-  -- the gain of one that passes
-  gain-is : (r : ℕ) → passing r ≡ true → (offer_at r).gain ≡ gain rows owners (move v r)
-  unfolding offer_of may_join gain
-  gain-is r p = let j = and_r (ltb 0 (gain rows owners (move v r))) (may_join b rows weights owners v r) p in rw j
-
-  load_is : (r : ℕ) → (offer_at r).load ≡ load weights owners r
-  unfolding offer_of
-  load_is r = refl
-
-  agrees
-      : (i j : ℕ)
-      → i < j
-      → passing i ≡ true
-      → passing j ≡ true
-      → preferred b rows weights owners v j i ≡ wins (λ r. (offer_at r).gain) (λ r. (offer_at r).load) j i
+  agrees : (i j : ℕ) → i < j → passing i ≡ true → passing j ≡ true → preferred b rows weights owners v j i ≡ wins gains loads j i
   unfolding preferred
-  agrees i j h p q =
-      rw (
-        gain-is i p,
-        gain-is j q,
-        load_is i,
-        load_is j,
-        le-ltb j i (omega arith),
-        above-last (load weights owners i) (load weights owners j),
-      )
+  agrees i j h p q = rw (le-ltb j i (omega arith), above-last (load weights owners i) (load weights owners j))
 
-  own : (r : ℕ) → (offer_at r).rank ≡ r
-  unfolding offer_of
-  own r = refl
-
-  start : offered no_offer ≡ none
+  start : offered None ≡ none
   unfolding offered
   start = refl
 
@@ -321,18 +281,16 @@ module _ (b : Balance) (rows : List (List ℕ)) (weights owners : List ℕ) (v :
       → offered (best_offer rs) ≡ target b rows weights owners v
   unfolding target
   target-among rs low listed =
-      let g : ℕ → ℕ = λ r. (offer_at r).gain in
-      let h : ℕ → ℕ = λ r. (offer_at r).load in
       let P : ℕ → Type 0 = λ s. (s < b.ranks) × (passing s ≡ true) in
       let nobody : ℕ → Type 0 = λ s. ⊥ in
-      offered-list offer_at own passing opens rs no_offer (inl refl)
-      ∙ top_unique g h P (foldl (step (wins g h) passing) (offered no_offer) rs)
+      offered-list gains loads passing offer_at opens rs None (λ o e. cc)
+      ∙ top_unique gains loads P (foldl (step (wins gains loads) passing) (offered None) rs)
       (best (preferred b rows weights owners v) (filter passing (range 0 b.ranks)))
-      (rw start (top-list g h passing rs nobody P none (top-none g h nobody (λ s z. z))
+      (rw start (top-list gains loads passing rs nobody P none (top-none gains loads nobody (λ s z. z))
       (λ s z. absurd z)
       (λ s e p. (all_in (λ r. r < b.ranks) rs s low e, p))
       (λ s q. inr (listed s q.0 q.1, q.1))))
-      (top-best g h passing (preferred b rows weights owners v) agrees b.ranks)
+      (top-best gains loads passing (preferred b rows weights owners v) agrees b.ranks)
 
   pub target-by-row : All (λ u. at owners u < b.ranks) (row rows v) → offered (best_offer (map (at owners) (row rows v))) ≡ target b rows weights owners v
   target-by-row a = target-among (map (at owners) (row rows v)) (all_map (λ r. r < b.ranks) (at owners) (row rows v) a) (λ r h p. has-neighbor r p)
@@ -345,7 +303,7 @@ module _ (b : Balance) (rows : List (List ℕ)) (weights owners : List ℕ) (v :
   -- a target is a rank
   pub target-rank : (r : ℕ) → target b rows weights owners v ≡ some r → r < b.ranks
   unfolding target
-  target-rank r e = ((top-best (λ s. (offer_at s).gain) (λ s. (offer_at s).load) passing (preferred b rows weights owners v) agrees b.ranks).passes r e).0
+  target-rank r e = ((top-best gains loads passing (preferred b rows weights owners v) agrees b.ranks).passes r e).0
 
   -- one that passes tempts v: it is not v's own, which gains nothing, and owns a neighbor
   passing-tempts : (r : ℕ) → passing r ≡ true → tempts b.cap (at weights v) (load weights owners r) (at owners v) r ≡ true
@@ -366,7 +324,7 @@ module _ (b : Balance) (rows : List (List ℕ)) (weights owners : List ℕ) (v :
 
   target-passes : (r : ℕ) → target b rows weights owners v ≡ some r → passing r ≡ true
   unfolding target
-  target-passes r e = ((top-best (λ s. (offer_at s).gain) (λ s. (offer_at s).load) passing (preferred b rows weights owners v) agrees b.ranks).passes r e).1
+  target-passes r e = ((top-best gains loads passing (preferred b rows weights owners v) agrees b.ranks).passes r e).1
 
   -- a vertex that no rank tempts has no target
   pub untempted : tempting b rows weights owners v ≡ false → target b rows weights owners v ≡ none

@@ -1,25 +1,11 @@
 -- A coarsening step in the work slice: what it is given, and what it leaves. Assumes nothing.
-use Rattle.std.specs.Prelude.{ℕ, ◌+◌, ◌*◌, ◌≤◌, ◌<◌, ◌≡◌, cond, List, [], ◌∷◌, map, length, ltb}
+use Rattle.std.specs.Prelude.{ℕ, ◌+◌, ◌*◌, ◌≤◌, ◌<◌, ◌≡◌, cond, List, [], ◌∷◌, map, length, ltb, Option, Some, None}
 use Rattle.links.specs.Lists.{at, sum}
 use Rattle.links.specs.Parts.{Kept}
 use Rattle.stages.specs.Coarsen.{Coarse, coarsen_once}
-use Rattle.stages.specs.Level.{rows_at, weights_at, group_at, Laid, Ready}
+use Rattle.stages.specs.Level.{rows_at, weights_at, group_at, Laid, Ready, resized}
 use Rattle.stages.specs.declared.level.HierarchyLevel.{HierarchyLevel}
-use Rattle.stages.specs.declared.coarsen.Coarsened.{Coarsened}
-use Rattle.stages.specs.declared.coarsen.Coarsened.TheVariants.{Same, Smaller}
-
--- the level at the same places with n vertices and m entries
-abbrev pub resized : HierarchyLevel → ℕ → ℕ → HierarchyLevel
-resized l n m =
-    record {
-      vertices = n;
-      entries = m;
-      offsets = l.offsets;
-      neighbors = l.neighbors;
-      weights = l.weights;
-      fine_to_coarse = l.fine_to_coarse;
-      owners = l.owners;
-    }
+use Rattle.stages.specs.declared.coarsen.Smaller.{Smaller}
 
 -- a level, room for one as large after it, and three numbers a vertex from scratch on
 pub record Coarsenable (w : List ℕ) (l next : HierarchyLevel) (scratch : ℕ) : Type 0 where
@@ -41,28 +27,28 @@ entries_of c = sum (map length c.rows)
 abbrev pub next_of : HierarchyLevel → Coarse → HierarchyLevel
 next_of next c = resized next (length c.weights) (entries_of c)
 
--- the answer for a step from n vertices: the same where it has no fewer groups
-abbrev pub answer_of : Coarse → ℕ → Coarsened
+-- the answer for a step from n vertices: none where it has no fewer groups
+abbrev pub answer_of : Coarse → ℕ → Option Smaller
 answer_of c n =
     let groups = length c.weights in
-    let smaller = Smaller groups (entries_of c) c.pairs c.singletons in
-    cond (ltb groups n) smaller Same
+    let smaller : Smaller = record { groups = groups; entries = entries_of c; pairs = c.pairs; singletons = c.singletons } in
+    cond (ltb groups n) (Some smaller) None
 
 -- the answer's number, always 0, for no step is refused: "A step that does not shrink is discarded"
-abbrev pub coarsened_number : Coarsened → ℕ
-coarsened_number Same = 0
-coarsened_number (Smaller groups entries pairs singletons) = 0
+abbrev pub coarsened_number : Option Smaller → ℕ
+coarsened_number None = 0
+coarsened_number (Some s) = 0
 
 -- its values: groups, entries, pairs and singletons, all 0 for a step that is discarded
-abbrev pub coarsened_values : Coarsened → List ℕ
-coarsened_values Same = 0 ∷ 0 ∷ 0 ∷ 0 ∷ []
-coarsened_values (Smaller groups entries pairs singletons) = groups ∷ entries ∷ pairs ∷ singletons ∷ []
+abbrev pub coarsened_values : Option Smaller → List ℕ
+coarsened_values None = 0 ∷ 0 ∷ 0 ∷ 0 ∷ []
+coarsened_values (Some s) = s.groups ∷ s.entries ∷ s.pairs ∷ s.singletons ∷ []
 
 -- those of a step
 abbrev pub values_of : Coarse → List ℕ
 values_of c = length c.weights ∷ entries_of c ∷ c.pairs ∷ c.singletons ∷ []
 
-pub record CoarsenedOnce (w w' : List ℕ) (l next : HierarchyLevel) (scratch : ℕ) (a : Coarsened) : Type 0 where
+pub record CoarsenedOnce (w w' : List ℕ) (l next : HierarchyLevel) (scratch : ℕ) (a : Option Smaller) : Type 0 where
   pub answer : a ≡ answer_of (step_of w l) l.vertices
   pub number : coarsened_number a ≡ 0
   pub values : coarsened_values a ≡ cond (ltb (length (step_of w l).weights) l.vertices) (values_of (step_of w l)) (0 ∷ 0 ∷ 0 ∷ 0 ∷ [])

@@ -1,6 +1,6 @@
 -- Frontiers in the work slice: a rank's frontier is a chain of the groups that it claimed, in the order of the claims, with a place in the first one's
 -- row. Its candidates are the rows of these groups, from that place on. Assumes nothing.
-use Rattle.std.specs.Prelude.{◌≡◌, ◌⊎◌, Bool, true, false, ◌&&◌, cond, List, [], ◌∷◌, ℕ, zero, suc, ◌+◌, ◌-◌, ◌≤◌, ◌<◌, ◌^◌, length, get_or, set, drop, eqb, ltb, leb}
+use Rattle.std.specs.Prelude.{◌≡◌, ◌⊎◌, Bool, true, false, ◌&&◌, cond, List, [], ◌∷◌, ℕ, zero, suc, ◌+◌, ◌-◌, ◌≤◌, ◌<◌, ◌^◌, length, get_or, set, drop, eqb, ltb, leb, Option, Some, None}
 use Rattle.links.specs.Lists.{at, unassigned, filter, elem, concat_map, sum, All}
 use Rattle.links.specs.Parts.{part}
 use Rattle.links.specs.Graph.{row, degree, load, vertex_count, SoundLists}
@@ -8,6 +8,8 @@ use Rattle.stages.specs.Level.{Laid, offsets_at, neighbors_at, rows_at, weights_
 use Rattle.stages.specs.Coarsen.{by_degree}
 use Rattle.stages.specs.Growth.{Growing, Choice, passes, claims, restarts, unowned}
 use Rattle.stages.specs.declared.growth.GrowthRoom.{GrowthRoom}
+use Rattle.stages.specs.declared.growth.TurnKind.{TurnKind}
+use Rattle.stages.specs.declared.growth.TurnKind.TheVariants.{Pass, Claim, Restart}
 
 -- ---- chains
 
@@ -66,9 +68,9 @@ pub record Sought (rows : List (List ℕ)) (links : List ℕ) (ok : ℕ → Bool
   pub going : Going rows links ok b h p n h' p' n'
   pub stopped : stops_at rows ok h' p' n' ≡ true
 
--- the candidate at a place, unassigned at the chain's end
-unfoldable pub candidate_at : List (List ℕ) → ℕ → ℕ → ℕ → ℕ
-candidate_at rows h p n = cond (eqb n 0) unassigned (at (row rows h) p)
+-- the candidate at a place, none at the chain's end
+unfoldable pub candidate_at : List (List ℕ) → ℕ → ℕ → ℕ → Option ℕ
+candidate_at rows h p n = cond (eqb n 0) None (Some (at (row rows h) p))
 
 -- p is the place of the first at or after `from` that passes the test, or the end
 pub record FirstOpen (ok : ℕ → Bool) (order : List ℕ) (from p : ℕ) : Type 0 where
@@ -224,8 +226,20 @@ pub record Stored (l : GrowthRoom) (w w' : List ℕ) (m : Memory) : Type 0 where
   pub after : memory_in l w' ≡ m
   pub outside : Outside l w w'
 
--- 0 for a pass, 1 for a claim, 2 for a restart
-abbrev pub kind_of : Choice → ℕ
-kind_of passes = 0
-kind_of (claims g) = 1
-kind_of (restarts g) = 2
+-- what a choice is as the code tells it
+abbrev pub kind_of : Choice → TurnKind
+kind_of passes = Pass
+kind_of (claims g) = Claim
+kind_of (restarts g) = Restart
+
+-- how many groups a turn claims
+abbrev pub claims_by : TurnKind → ℕ
+claims_by Pass = 0
+claims_by Claim = 1
+claims_by Restart = 1
+
+-- how many of them are restarts
+abbrev pub restarts_by : TurnKind → ℕ
+restarts_by Pass = 0
+restarts_by Claim = 0
+restarts_by Restart = 1

@@ -1,18 +1,21 @@
 -- The growth stage over the work slice: what a turn, a round, all rounds, the start and the whole stage ask and leave. Assumes nothing.
-use Rattle.std.specs.Prelude.{◌≡◌, ◌⊎◌, Bool, true, false, not, cond, List, [], ◌∷◌, ◌++◌, ℕ, ◌+◌, ◌*◌, ◌≤◌, ◌<◌, ◌^◌, length, set, drop, replicate, eqb, ltb}
+use Rattle.std.specs.Prelude.{◌≡◌, Bool, true, false, not, cond, List, [], ◌∷◌, ◌++◌, ℕ, ◌+◌, ◌*◌, ◌≤◌, ◌<◌, ◌^◌, length, set, drop, replicate, eqb, ltb, MatchOption, Result, Ok, Err}
+use Rattle.std.specs.Prelude as prelude
 use Rattle.std.proofs.Math.Option.{Option}
 use Rattle.links.specs.Lists.{at, unassigned, filter, any, foldl, range, sum, best}
 use Rattle.links.specs.Parts.{part, Kept}
 use Rattle.links.specs.Graph.{row, load, SoundLists}
+use Rattle.links.specs.Refusals.{number_of}
+use Rattle.links.specs.declared.refusal.Refusal.{Refusal}
+use Rattle.links.specs.declared.refusal.Refusal.TheVariants.{GroupAboveCap, FewerGroupsThanRanks, GrowthStuck}
 use Rattle.stages.specs.Level.{Ready, offsets_at, neighbors_at, rows_at, weights_at, owners_at}
 use Rattle.stages.specs.Seeds.{farthest_seeds}
 use Rattle.stages.specs.Growth.{Growing, Turn, Round, Growth, turn, round, rounds, is_pass, after_turn, seed_owners, grown, weighted_multisource, restart_count}
 use Rattle.stages.specs.Coarsen.{by_degree}
-use Rattle.stages.specs.FrontierCode.{GrowthLaid, Outside, rows_in, weights_in, order_in, memory_in, vacant_in, opens, higher, Sought, front_of, Stands, GrowthReady, kind_of}
+use Rattle.stages.specs.FrontierCode.{GrowthLaid, Outside, rows_in, weights_in, order_in, memory_in, vacant_in, opens, higher, Sought, front_of, Stands, GrowthReady, kind_of, claims_by}
 use Rattle.stages.specs.declared.level.HierarchyLevel.{HierarchyLevel}
 use Rattle.stages.specs.declared.growth.GrowthRoom.{GrowthRoom}
-use Rattle.stages.specs.declared.growth.Grown.{Grown}
-use Rattle.stages.specs.declared.growth.Grown.TheVariants as variant
+use Rattle.stages.specs.declared.growth.TurnKind.{TurnKind}
 
 -- ---- a turn
 
@@ -53,15 +56,15 @@ pub record Behind (cap : ℕ) (l : GrowthRoom) (w cursors : List ℕ) : Type 0 w
   pub inside : (d : ℕ) → d < l.ranks → at cursors d ≤ l.level.vertices
   pub closed : (d i : ℕ) → d < l.ranks → i < at cursors d → open_in cap l w w d (at (order_in l w) i) ≡ false
 
--- g is the first open candidate of rank r, unassigned where there is none; the place in its chain is there, or at the end
-pub record Advanced (l : GrowthRoom) (cap : ℕ) (w w' : List ℕ) (r g : ℕ) : Type 0 where
+-- g is the first open candidate of rank r, if there is one; the place in its chain is there, or at the end
+pub record Advanced (l : GrowthRoom) (cap : ℕ) (w w' : List ℕ) (r : ℕ) (g : prelude.Option ℕ) : Type 0 where
   pub outside : Outside l w w'
   pub ready : GrowthReady l w'
   pub stands : (s : Growing) → StandsIn cap l w w s → StandsIn cap l w w' s
   pub owners-are : (memory_in l w').owners ≡ (memory_in l w).owners
   pub found
-      : ((g ≡ unassigned) × (filter (open_in cap l w w' r) (front_of (rows_in l w) (memory_in l w') r) ≡ []))
-      ⊎ ((xs : List ℕ) × (filter (open_in cap l w w' r) (front_of (rows_in l w) (memory_in l w') r) ≡ g ∷ xs) × (open_in cap l w w' r g ≡ true))
+      : MatchOption g (filter (open_in cap l w w' r) (front_of (rows_in l w) (memory_in l w') r) ≡ [])
+      (λ x. (xs : List ℕ) × (filter (open_in cap l w w' r) (front_of (rows_in l w) (memory_in l w') r) ≡ x ∷ xs) × (open_in cap l w w' r x ≡ true))
 
 -- rank r owns g, and g's row is at the end of its frontier
 pub record Claimed (l : GrowthRoom) (w w' : List ℕ) (r g : ℕ) : Type 0 where
@@ -72,12 +75,12 @@ pub record Claimed (l : GrowthRoom) (w w' : List ℕ) (r g : ℕ) : Type 0 where
   pub there : (d : ℕ) → d < l.ranks → (d ≡ r → ⊥) → front_of (rows_in l w) (memory_in l w') d ≡ front_of (rows_in l w) (memory_in l w) d
 
 -- the turn that the definition gives from any state that the memory stands for
-pub record TurnMade (l : GrowthRoom) (cap : ℕ) (w w' : List ℕ) (r x : ℕ) : Type 0 where
+pub record TurnMade (l : GrowthRoom) (cap : ℕ) (w w' : List ℕ) (r : ℕ) (x : TurnKind) : Type 0 where
   pub outside : Outside l w w'
   pub ready : GrowthReady l w'
   pub kind : (s : Growing) → StandsIn cap l w w s → x ≡ kind_of (turn cap (rows_in l w) (weights_in l w) s r).turn.choice
   pub stands : (s : Growing) → StandsIn cap l w w s → StandsIn cap l w w' (turn cap (rows_in l w) (weights_in l w) s r).state
-  pub vacant : cond (eqb x 0) 0 1 + vacant_in (memory_in l w').owners ≡ vacant_in (memory_in l w).owners
+  pub vacant : claims_by x + vacant_in (memory_in l w').owners ≡ vacant_in (memory_in l w).owners
 
 -- ---- rounds
 
@@ -131,24 +134,24 @@ pub record Leaves (l : GrowthRoom) (cap : ℕ) (w w' : List ℕ) (f restarts : �
 
 -- ---- the answer
 
--- each case's number and value in 01's terms: the restarts, or the refusal
-abbrev pub grown_number : Grown → ℕ
-grown_number (variant.Owned restarts) = 0
-grown_number (variant.Refused number) = number
+-- an answer's value in 01's terms: the restarts, 0 for a refusal
+abbrev pub grown_value : Result ℕ Refusal → ℕ
+grown_value (Ok restarts) = restarts
+grown_value (Err refusal) = 0
 
-abbrev pub grown_value : Grown → ℕ
-grown_value (variant.Owned restarts) = restarts
-grown_value (variant.Refused number) = 0
+-- the refusals of growth by their numbers
+abbrev pub growth_refusal : ℕ → Refusal
+growth_refusal number = cond (eqb number 6) GroupAboveCap (cond (eqb number 7) FewerGroupsThanRanks GrowthStuck)
 
 -- a refusal where the number is not 0
-abbrev pub grown_answer : ℕ → ℕ → Grown
-grown_answer number restarts = cond (eqb number 0) (variant.Owned restarts) (variant.Refused number)
+abbrev pub grown_answer : ℕ → ℕ → Result ℕ Refusal
+grown_answer number restarts = cond (eqb number 0) (Ok restarts) (Err (growth_refusal number))
 
 -- 8: "growth round without a claim": a group is left
 abbrev pub left_cause : List ℕ → ℕ
 left_cause owners = cond (vacancy owners) 8 0
 
-pub record GrownTo (l : GrowthRoom) (cap : ℕ) (w w' : List ℕ) (r : Grown) : Type 0 where
+pub record GrownTo (l : GrowthRoom) (cap : ℕ) (w w' : List ℕ) (r : Result ℕ Refusal) : Type 0 where
   pub outside : Outside l w w'
   pub owners-are
       : (s : Growing) → StandsIn cap l w w s → (memory_in l w').owners ≡ foldl after_turn s.owners (rounds_of cap l w l.level.vertices s)
@@ -200,7 +203,7 @@ pub record Seated (l : GrowthRoom) (w w' : List ℕ) (r : ℕ) : Type 0 where
 abbrev pub growth_in : ℕ → GrowthRoom → List ℕ → Growth
 growth_in cap l w = weighted_multisource cap (rows_in l w) (weights_in l w) (seeds_in l w)
 
-pub record Multisource (l : GrowthRoom) (cap : ℕ) (w w' : List ℕ) (r : Grown) : Type 0 where
+pub record Multisource (l : GrowthRoom) (cap : ℕ) (w w' : List ℕ) (r : Result ℕ Refusal) : Type 0 where
   pub outside : Outside l w w'
   pub owners-are : (memory_in l w').owners ≡ grown (growth_in cap l w) (growth_in cap l w).turns
   pub answer : r ≡ grown_answer (left_cause (grown (growth_in cap l w) (growth_in cap l w).turns)) (restart_count (growth_in cap l w).turns)
@@ -257,9 +260,9 @@ growth_cause w l k cap =
 
 -- rule 5: the answer, and the owners unless it was refused before growth; nothing is written but the level's owners and what lies beyond them up to
 -- the end of the need
-pub record GrownTold (w w' : List ℕ) (l : HierarchyLevel) (scratch k cap : ℕ) (r : Grown) : Type 0 where
+pub record GrownTold (w w' : List ℕ) (l : HierarchyLevel) (scratch k cap : ℕ) (r : Result ℕ Refusal) : Type 0 where
   pub answer : r ≡ grown_answer (growth_cause w l k cap) (restart_count (growth_at w l k cap).turns)
-  pub number : grown_number r ≡ growth_cause w l k cap
+  pub number : number_of r ≡ growth_cause w l k cap
   pub value : grown_value r ≡ cond (eqb (growth_cause w l k cap) 0) (restart_count (growth_at w l k cap).turns) 0
   pub owners : too_heavy cap (weights_at w l) ≡ false → too_few_groups (rows_at w l) k ≡ false → owners_at w' l ≡ grown_at w l k cap
   pub kept : Kept l.owners (scratch + growth_need l.vertices k) w' w

@@ -25,6 +25,45 @@ group_at w l = part w l.fine_to_coarse (l.fine_to_coarse + l.vertices)
 abbrev pub owners_at : List ℕ → HierarchyLevel → List ℕ
 owners_at w l = part w l.owners (l.owners + l.vertices)
 
+-- a level at base: its parts one after the other
+abbrev pub level_at : ℕ → ℕ → ℕ → HierarchyLevel
+level_at n m base =
+    record {
+      vertices = n;
+      entries = m;
+      offsets = base;
+      neighbors = base + (n + 1);
+      weights = base + (n + 1) + m;
+      fine_to_coarse = base + (n + 1) + m + n;
+      owners = base + (n + 1) + m + n + n;
+    }
+
+-- the same level, further up
+abbrev pub moved_up : HierarchyLevel → ℕ → HierarchyLevel
+moved_up l unit =
+    record {
+      vertices = l.vertices;
+      entries = l.entries;
+      offsets = l.offsets + unit;
+      neighbors = l.neighbors + unit;
+      weights = l.weights + unit;
+      fine_to_coarse = l.fine_to_coarse + unit;
+      owners = l.owners + unit;
+    }
+
+-- the level at the same places with n vertices and m entries
+abbrev pub resized : HierarchyLevel → ℕ → ℕ → HierarchyLevel
+resized l n m =
+    record {
+      vertices = n;
+      entries = m;
+      offsets = l.offsets;
+      neighbors = l.neighbors;
+      weights = l.weights;
+      fine_to_coarse = l.fine_to_coarse;
+      owners = l.owners;
+    }
+
 -- the parts lie one after the other, and end by `end`
 pub record Laid (l : HierarchyLevel) (end : ℕ) : Type 0 where
   pub offsets-in : l.offsets + (l.vertices + 1) ≤ l.neighbors

@@ -12,5 +12,6 @@ pub mod CoarsenCode
 pub mod CoarsenParts
 pub mod MovesCode
 pub mod SeedsCode
+pub mod Found
 pub mod FrontierCode
 pub mod GrowthCode

@@ -1,6 +1,6 @@
 -- What the code of rule 6 keeps in the work slice, and what it promises. Assumes nothing.
-use Rattle.std.specs.Prelude.{ℕ, ◌+◌, ◌-◌, ◌≤◌, ◌<◌, ◌*◌, ◌≡◌, Bool, not, ◌&&◌, cond, List, length, set, leb, ltb, eqb}
-use Rattle.std.proofs.Math.Option.{Option, none, some}
+use Rattle.std.specs.Prelude.{ℕ, ◌+◌, ◌-◌, ◌≤◌, ◌<◌, ◌*◌, ◌≡◌, Bool, not, ◌&&◌, cond, List, Option, Some, None, Result, Ok, Err, length, set, leb, ltb, eqb}
+use Rattle.std.proofs.Math.Option as choice
 use Rattle.links.specs.Lists.{at, any, above, foldl, range}
 use Rattle.links.specs.Loads.{Balance}
 use Rattle.links.specs.Parts.{Kept}
@@ -11,8 +11,8 @@ use Rattle.stages.specs.Moves.{Step, after, refine_by_cut}
 use Rattle.stages.specs.declared.level.HierarchyLevel.{HierarchyLevel}
 use Rattle.stages.specs.declared.level.Limits.{Limits}
 use Rattle.stages.specs.declared.moves.Offer.{Offer}
-use Rattle.stages.specs.declared.moves.Refined.{Refined}
-use Rattle.stages.specs.declared.moves.Refined.TheVariants as refined
+use Rattle.links.specs.Refusals.{number_of}
+use Rattle.links.specs.declared.refusal.Refusal.{Refusal}
 
 -- ---- what a level's ranks have in the work slice
 
@@ -75,12 +75,14 @@ unfoldable pub tempting : Balance → List (List ℕ) → (weights owners : List
 tempting b rows weights owners v =
     any (λ u. tempts b.cap (at weights v) (load weights owners (at owners u)) (at owners v) (at owners u)) (row rows v)
 
--- what a rank with so many neighbors there offers: "neighbours there less neighbours at home", 0 unless "load plus weight within cap"
-unfoldable pub offer_of : (cap weight load there home rank : ℕ) → Offer
-offer_of cap weight load there home rank = record { gain = cond (leb (load + weight) cap) (there - home) 0; load = load; rank = rank }
+-- what a rank with so many neighbors there offers: "neighbours there less neighbours at home", if that is above 0 and "load plus weight within cap"
+unfoldable pub offer_of : (cap weight load there home rank : ℕ) → Option Offer
+offer_of cap weight load there home rank =
+    let offer : Offer = record { gain = there - home; load = load; rank = rank } in
+    cond (ltb 0 (there - home) && leb (load + weight) cap) (Some offer) None
 
 -- what a rank offers a vertex, by its load in the work slice and the vertex's tally behind the loads
-abbrev pub rank_offer : List ℕ → (scratch : ℕ) → Limits → (weight home rank : ℕ) → Offer
+abbrev pub rank_offer : List ℕ → (scratch : ℕ) → Limits → (weight home rank : ℕ) → Option Offer
 rank_offer w scratch limits weight home rank =
     offer_of limits.cap weight (at w (scratch + rank)) (at w (scratch + limits.ranks + rank)) home rank
 
@@ -89,30 +91,25 @@ abbrev pub outbids : Offer → Offer → Bool
 outbids x y = above x.gain y.gain (above y.load x.load (ltb x.rank y.rank))
 
 -- the better of two; the first if they are the same
-unfoldable pub better_offer : Offer → Offer → Offer
-better_offer x y = cond (outbids y x) y x
-
--- the best before any is met
-abbrev pub no_offer : Offer
-no_offer = record { gain = 0; load = 0; rank = 0 }
+unfoldable pub better_offer : Option Offer → Option Offer → Option Offer
+better_offer None y = y
+better_offer (Some x) None = Some x
+better_offer (Some x) (Some y) = Some (cond (outbids y x) y x)
 
 -- the best of what the ranks below n offer
-abbrev pub best_rank : List ℕ → (scratch : ℕ) → Limits → (weight home n : ℕ) → Offer
-best_rank w scratch limits weight home n = foldl (λ o r. better_offer o (rank_offer w scratch limits weight home r)) no_offer (range 0 n)
+abbrev pub best_rank : List ℕ → (scratch : ℕ) → Limits → (weight home n : ℕ) → Option Offer
+best_rank w scratch limits weight home n = foldl (λ o r. better_offer o (rank_offer w scratch limits weight home r)) None (range 0 n)
 
--- the rank that an offer stands for; a gain of 0 is no offer
-unfoldable pub offered : Offer → Option ℕ
-offered x = cond (eqb x.gain 0) none (some x.rank)
+-- the rank that an offer stands for
+unfoldable pub offered : Option Offer → choice.Option ℕ
+offered None = choice.none
+offered (Some x) = choice.some x.rank
 
--- ---- the answer: each case's number and value
+-- ---- the answer's value; its number is number_of
 
-abbrev pub refined_number : Refined → ℕ
-refined_number (refined.Moved m) = 0
-refined_number (refined.Refused number) = number
-
-abbrev pub refined_value : Refined → ℕ
-refined_value (refined.Moved m) = m
-refined_value (refined.Refused number) = 0
+abbrev pub refined_value : Result ℕ Refusal → ℕ
+refined_value (Ok m) = m
+refined_value (Err e) = 0
 
 -- ---- rule 6 on a level in the work slice
 
@@ -131,13 +128,10 @@ pub record Refinable (w : List ℕ) (l : HierarchyLevel) (scratch ranks : ℕ) :
   pub ranked : Ranked w l ranks
 
 -- "then the `from_owners` check": its number, and the number of moves where that is 0
-pub record RefinedByCut (w w' : List ℕ) (l : HierarchyLevel) (scratch : ℕ) (limits : Limits) (passes : ℕ) (r : Refined) : Type 0 where
+pub record RefinedByCut (w w' : List ℕ) (l : HierarchyLevel) (scratch : ℕ) (limits : Limits) (passes : ℕ) (r : Result ℕ Refusal) : Type 0 where
   pub owners : owners_at w' l ≡ moved_at w l limits passes
-  pub answer
-      : r
-      ≡ cond (eqb (from_owners limits.ranks (moved_at w l limits passes)) 0) (refined.Moved (length (moves_at w l limits passes)))
-      (refined.Refused (from_owners limits.ranks (moved_at w l limits passes)))
-  pub number : refined_number r ≡ from_owners limits.ranks (moved_at w l limits passes)
+  pub answer : from_owners limits.ranks (moved_at w l limits passes) ≡ 0 → r ≡ Ok (length (moves_at w l limits passes))
+  pub number : number_of r ≡ from_owners limits.ranks (moved_at w l limits passes)
   pub value : refined_value r ≡ cond (eqb (from_owners limits.ranks (moved_at w l limits passes)) 0) (length (moves_at w l limits passes)) 0
   pub ready : Ready w' l scratch
   pub ranked : Ranked w' l limits.ranks

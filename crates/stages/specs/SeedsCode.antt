@@ -1,6 +1,6 @@
 -- The seeds stage over the work slice: the search that lowers the distances from a new seed, and what each function asks and leaves. The level's parts
 -- lie below `scratch`; from there on lie n distances, n entries of a queue, and the seeds. Assumes nothing.
-use Rattle.std.specs.Prelude.{ℕ, zero, suc, ◌+◌, ◌-◌, ◌*◌, ◌≤◌, ◌<◌, ◌≡◌, Bool, true, cond, not, List, [], ◌∷◌, ◌++◌, ◌⊎◌, length, set, ltb, eqb}
+use Rattle.std.specs.Prelude.{ℕ, zero, suc, ◌+◌, ◌-◌, ◌*◌, ◌≤◌, ◌<◌, ◌≡◌, Bool, true, cond, not, List, [], ◌∷◌, ◌++◌, ◌⊎◌, length, set, ltb, eqb, Option, Some, None}
 use Rattle.std.proofs.Math.Option.{get_or}
 use Rattle.links.specs.Lists.{at, unassigned, elem, above, best, filter, range}
 use Rattle.links.specs.Parts.{part, Kept}
@@ -147,6 +147,11 @@ ahead d deg u v = above (d u) (d v) (ltb (deg v) (deg u))
 -- the seeds alone are at 0
 abbrev pub unseeded : (ℕ → ℕ) → ℕ → Bool
 unseeded d v = not (eqb (d v) 0)
+
+-- the better of the best so far and i, if i is no seed
+unfoldable pub farther_of : (ℕ → ℕ) → (ℕ → ℕ) → Option ℕ → ℕ → Option ℕ
+farther_of d deg None i = cond (unseeded d i) (Some i) None
+farther_of d deg (Some b) i = cond (unseeded d i) (Some (cond (ahead d deg i b) i b)) (Some b)
 
 unfoldable pub farthest : (ℕ → ℕ) → (ℕ → ℕ) → ℕ → ℕ
 farthest d deg n = get_or (best (ahead d deg) (filter (unseeded d) (range 0 n))) 0

@@ -1,25 +1,26 @@
 // Rule 5: growth. A rank's frontier is a chain of the groups that it claimed, with a place in the first one's row.
-ghost use Rattle.std.specs.Prelude.{◌≡◌, true, cond, ◌+◌, ◌-◌, ◌*◌, ◌≤◌, ◌<◌, ◌^◌, length, eqb};
+ghost use Rattle.std.specs.Prelude.{◌≡◌, true, ◌+◌, ◌-◌, ◌*◌, ◌≤◌, ◌<◌, ◌^◌, length, MatchOption};
+ghost use Rattle.std.proofs.Math.Option.{none, some};
 ghost use Rattle.links.specs.Lists.{at, unassigned, All};
-ghost use Rattle.links.specs.Best.{held};
 ghost use Rattle.links.specs.Graph.{row, degree, rows_of, vertex_count, load, SoundLists};
 ghost use Rattle.stages.specs.Level.{weights_at};
 ghost use Rattle.stages.specs.FrontierCode.{opens, stops_at, Onward, Chain, Sought, FirstOpen, candidate_at, Lent, rows_in, weights_in, order_in, memory_in, vacant_in, GrowthLaid, parked, owning, begun, appended, GrowthReady, Stored};
-ghost use Rattle.stages.specs.GrowthCode.{open_in, open_now, SoughtIn, restart_in, Behind, Advanced, Claimed, TurnMade, Rounded, More, grown_number, GrownTo, Sown, Blank, Cleared, Seated, Multisource, too_heavy, room_at, Growable, GrownTold};
+ghost use Rattle.stages.specs.GrowthCode.{open_in, open_now, SoughtIn, restart_in, Behind, Advanced, Claimed, TurnMade, Rounded, GrownTo, Sown, Blank, Cleared, Seated, Multisource, too_heavy, room_at, Growable, GrownTold};
 
-use super::level::HierarchyLevel;
+use super::level::{HierarchyLevel, UNASSIGNED};
 use super::order::order_by_degree;
 use super::seeds::farthest_seeds;
-use links::{fill_part, index, store, wide};
+use links::Refusal;
 
-const UNASSIGNED: u32 = 4294967295;
+// The claims of a round after which growth is stuck.
+const NO_CLAIMS: u64 = 0;
 
 // How many neighbors v has.
 fn degree_of(offsets: &[u32], neighbors: &[u32], v: u32) -> u32
     requires { SoundLists offsets.now neighbors.now × (v < vertex_count offsets.now) }
     ensures { result ≡ degree (rows_of offsets.now neighbors.now) v }
 {
-    let i = index(v);
+    let i = v as usize;
     offsets[i + 1] - offsets[i]
 }
 
@@ -28,8 +29,8 @@ fn neighbor(offsets: &[u32], neighbors: &[u32], v: u32, i: u32) -> u32
     requires { SoundLists offsets.now neighbors.now × (v < vertex_count offsets.now) × (i < degree (rows_of offsets.now neighbors.now) v) }
     ensures { result ≡ at (row (rows_of offsets.now neighbors.now) v) i }
 {
-    let a = index(offsets[index(v)]);
-    neighbors[a + index(i)]
+    let start = offsets[v as usize] as usize;
+    neighbors[start + i as usize]
 }
 
 // Is g unowned, and does it fit a rank of this load?
@@ -37,12 +38,8 @@ fn is_open(weights: &[u32], owners: &[u32], load: u32, cap: u64, g: u32) -> bool
     requires { (g < length weights.now) × (g < length owners.now) }
     ensures { result ≡ opens cap weights.now owners.now load g }
 {
-    let i = index(g);
-    if owners[i] == UNASSIGNED {
-        wide(load) + wide(weights[i]) <= cap
-    } else {
-        false
-    }
+    let i = g as usize;
+    owners[i] == UNASSIGNED && u64::from(load) + u64::from(weights[i]) <= cap
 }
 
 // A place in a chain: an entry, a place in its row, and how many entries there are from this one on.
@@ -61,54 +58,37 @@ fn stops(
     owners: &[u32],
     load: u32,
     cap: u64,
-    head: u32,
-    place: u32,
-    count: u32,
+    here: Cursor,
 ) -> bool
-    requires { Lent offsets.now neighbors.now weights.now owners.now × (0 < count → head < vertex_count offsets.now) }
-    ensures { result ≡ stops_at (rows_of offsets.now neighbors.now) (opens cap weights.now owners.now load) head place count }
+    requires { Lent offsets.now neighbors.now weights.now owners.now × (0 < here.count → here.head < vertex_count offsets.now) }
+    ensures { result ≡ stops_at (rows_of offsets.now neighbors.now) (opens cap weights.now owners.now load) here.head here.place here.count }
 {
-    if count == 0 {
-        return true;
-    }
-    if place < degree_of(offsets, neighbors, head) {
-        is_open(
-            weights,
-            owners,
-            load,
-            cap,
-            neighbor(offsets, neighbors, head, place),
-        )
-    } else {
-        false
-    }
+    here.count == 0
+        || here.place < degree_of(offsets, neighbors, here.head)
+            && is_open(
+                weights,
+                owners,
+                load,
+                cap,
+                neighbor(offsets, neighbors, here.head, here.place),
+            )
 }
 
 // One candidate on, or one entry on.
-fn onward(
-    offsets: &[u32],
-    neighbors: &[u32],
-    links: &[u32],
-    head: u32,
-    place: u32,
-    count: u32,
-) -> Cursor
-    requires { SoundLists offsets.now neighbors.now × (length links.now ≡ vertex_count offsets.now) × (head < vertex_count offsets.now) × (0 < count) }
-    ensures { Onward (rows_of offsets.now neighbors.now) links.now head place count result.head result.place result.count }
+fn onward(offsets: &[u32], neighbors: &[u32], links: &[u32], here: Cursor) -> Cursor
+    requires { SoundLists offsets.now neighbors.now × (length links.now ≡ vertex_count offsets.now) × (here.head < vertex_count offsets.now) × (0 < here.count) }
+    ensures { Onward (rows_of offsets.now neighbors.now) links.now here.head here.place here.count result.head result.place result.count }
 {
-    if place < degree_of(offsets, neighbors, head) {
+    if here.place < degree_of(offsets, neighbors, here.head) {
         Cursor {
-            head,
-            place: place + 1,
-            count,
+            place: here.place + 1,
+            ..here
         }
     } else {
-        let i = index(head);
-        let h = links[i];
         Cursor {
-            head: h,
+            head: links[here.head as usize],
             place: 0,
-            count: count - 1,
+            count: here.count - 1,
         }
     }
 }
@@ -129,30 +109,11 @@ fn seek(
     ensures { Sought (rows_of offsets.now neighbors.now) links.now (opens cap weights.now owners.now load)
         (vertex_count offsets.now) from.head from.place from.count result.head result.place result.count }
 {
-    let mut head = from.head;
-    let mut place = from.place;
-    let mut count = from.count;
-    while !stops(
-        offsets, neighbors, weights, owners, load, cap, head, place, count,
-    ) {
-        let c = onward(offsets, neighbors, links, head, place, count);
-        head = c.head;
-        place = c.place;
-        count = c.count;
+    let mut here = from;
+    while !stops(offsets, neighbors, weights, owners, load, cap, here) {
+        here = onward(offsets, neighbors, links, here);
     }
-    Cursor { head, place, count }
-}
-
-// The candidate where the search stopped, UNASSIGNED at the chain's end.
-fn candidate(offsets: &[u32], neighbors: &[u32], here: Cursor) -> u32
-    requires { SoundLists offsets.now neighbors.now
-        × (0 < here.count → (here.head < vertex_count offsets.now) × (here.place < degree (rows_of offsets.now neighbors.now) here.head)) }
-    ensures { result ≡ candidate_at (rows_of offsets.now neighbors.now) here.head here.place here.count }
-{
-    if here.count == 0 {
-        return UNASSIGNED;
-    }
-    neighbor(offsets, neighbors, here.head, here.place)
+    here
 }
 
 // The place of the first group of the order, at or after `from`, that is open; the order's end where none is.
@@ -167,14 +128,12 @@ fn first_open(
     requires { All (λ g. (g < length weights.now) × (g < length owners.now)) order.now × (from ≤ length order.now) }
     ensures { FirstOpen (opens cap weights.now owners.now load) order.now from result }
 {
-    let mut p = from;
-    while p < order.len() {
+    for p in from..order.len() {
         if is_open(weights, owners, load, cap, order[p]) {
             return p;
         }
-        p += 1;
     }
-    p
+    order.len()
 }
 
 // Where a growth lies in the work slice: the level; its order by degree; the ranks' seeds; a link of a chain for each group; then, for each rank, its load, and its
@@ -198,12 +157,9 @@ fn park(work: &mut [u32], room: GrowthRoom, r: usize, c: Cursor)
     requires { GrowthLaid room (length work.old) × (r < room.ranks) }
     ensures { Stored room work.old work.new (parked (memory_in room work.old) r c.head c.place c.count) }
 {
-    let heads = room.heads;
-    let places = room.places;
-    let counts = room.counts;
-    store(work, heads + r, c.head);
-    store(work, places + r, c.place);
-    store(work, counts + r, c.count);
+    work[room.heads + r] = c.head;
+    work[room.places + r] = c.place;
+    work[room.counts + r] = c.count;
 }
 
 // Rank r owns group g.
@@ -211,14 +167,10 @@ fn own(work: &mut [u32], room: GrowthRoom, r: usize, g: u32)
     requires { GrowthLaid room (length work.old) × (r < room.ranks) × (g < room.level.vertices) × (at (memory_in room work.old).loads r + at (weights_in room work.old) g < 2 ^ 32) }
     ensures { Stored room work.old work.new (owning (memory_in room work.old) r g (at (weights_in room work.old) g)) }
 {
-    let level = room.level;
-    let owners = level.owners;
-    let weights = level.weights;
-    let loads = room.loads;
-    let i = index(g);
-    let x = work[loads + r] + work[weights + i];
-    store(work, owners + i, r as u32);
-    store(work, loads + r, x);
+    let i = g as usize;
+    let load = work[room.loads + r] + work[room.level.weights + i];
+    work[room.level.owners + i] = r as u32;
+    work[room.loads + r] = load;
 }
 
 // g is the first entry of rank r's chain.
@@ -226,14 +178,10 @@ fn begin(work: &mut [u32], room: GrowthRoom, r: usize, g: u32)
     requires { GrowthLaid room (length work.old) × (r < room.ranks) }
     ensures { Stored room work.old work.new (begun (memory_in room work.old) r g) }
 {
-    let heads = room.heads;
-    let tails = room.tails;
-    let places = room.places;
-    let counts = room.counts;
-    store(work, heads + r, g);
-    store(work, tails + r, g);
-    store(work, places + r, 0);
-    store(work, counts + r, 1);
+    work[room.heads + r] = g;
+    work[room.tails + r] = g;
+    work[room.places + r] = 0;
+    work[room.counts + r] = 1;
 }
 
 // g goes after the last entry of rank r's chain.
@@ -241,14 +189,11 @@ fn append(work: &mut [u32], room: GrowthRoom, r: usize, g: u32)
     requires { GrowthLaid room (length work.old) × (r < room.ranks) × (at (memory_in room work.old).counts r < unassigned) × (at (memory_in room work.old).tails r < room.level.vertices) }
     ensures { Stored room work.old work.new (appended (memory_in room work.old) r g) }
 {
-    let links = room.links;
-    let tails = room.tails;
-    let counts = room.counts;
-    let t = index(work[tails + r]);
-    let count = work[counts + r] + 1;
-    store(work, links + t, g);
-    store(work, tails + r, g);
-    store(work, counts + r, count);
+    let tail = work[room.tails + r] as usize;
+    let count = work[room.counts + r] + 1;
+    work[room.links + tail] = g;
+    work[room.tails + r] = g;
+    work[room.counts + r] = count;
 }
 
 // The place of rank r's first open candidate in its chain.
@@ -258,48 +203,35 @@ fn sought(w: &[u32], room: GrowthRoom, cap: u64, r: usize) -> Cursor
 {
     let l = room.level;
     let n = l.vertices;
-    let m = l.entries;
-    let offsets = l.offsets;
-    let neighbors = l.neighbors;
-    let weights = l.weights;
-    let owners = l.owners;
-    let links = room.links;
-    let heads = room.heads;
-    let places = room.places;
-    let counts = room.counts;
-    let loads = room.loads;
-    let head = w[heads + r];
-    let place = w[places + r];
-    let count = w[counts + r];
-    let load = w[loads + r];
-    let from = Cursor { head, place, count };
+    let from = Cursor {
+        head: w[room.heads + r],
+        place: w[room.places + r],
+        count: w[room.counts + r],
+    };
     seek(
-        &w[offsets..offsets + (n + 1)],
-        &w[neighbors..neighbors + m],
-        &w[weights..weights + n],
-        &w[owners..owners + n],
-        &w[links..links + n],
-        load,
+        &w[l.offsets..l.offsets + (n + 1)],
+        &w[l.neighbors..l.neighbors + l.entries],
+        &w[l.weights..l.weights + n],
+        &w[l.owners..l.owners + n],
+        &w[room.links..room.links + n],
+        w[room.loads + r],
         cap,
         from,
     )
 }
 
-// The candidate at a place in a chain.
-fn found(w: &[u32], room: GrowthRoom, c: Cursor) -> u32
-    requires { GrowthReady room w.now × (0 < c.count → (c.head < room.level.vertices) × (c.place < degree (rows_in room w.now) c.head)) }
-    ensures { result ≡ candidate_at (rows_in room w.now) c.head c.place c.count }
+// The candidate where the search stopped, none at the chain's end.
+fn found(w: &[u32], room: GrowthRoom, here: Cursor) -> Option<u32>
+    requires { GrowthReady room w.now × (0 < here.count → (here.head < room.level.vertices) × (here.place < degree (rows_in room w.now) here.head)) }
+    ensures { result ≡ candidate_at (rows_in room w.now) here.head here.place here.count }
 {
+    if here.count == 0 {
+        return None;
+    }
     let l = room.level;
-    let n = l.vertices;
-    let m = l.entries;
-    let offsets = l.offsets;
-    let neighbors = l.neighbors;
-    candidate(
-        &w[offsets..offsets + (n + 1)],
-        &w[neighbors..neighbors + m],
-        c,
-    )
+    let offsets = &w[l.offsets..l.offsets + (l.vertices + 1)];
+    let neighbors = &w[l.neighbors..l.neighbors + l.entries];
+    Some(neighbor(offsets, neighbors, here.head, here.place))
 }
 
 // The place in the order, at or after `from`, of the first group that is open to rank r; the order's end where none is.
@@ -309,42 +241,44 @@ fn open_from(w: &[u32], room: GrowthRoom, cap: u64, r: usize, from: usize) -> us
 {
     let l = room.level;
     let n = l.vertices;
-    let order = room.order;
-    let weights = l.weights;
-    let owners = l.owners;
-    let loads = room.loads;
-    let load = w[loads + r];
     first_open(
-        &w[order..order + n],
-        &w[weights..weights + n],
-        &w[owners..owners + n],
-        load,
+        &w[room.order..room.order + n],
+        &w[l.weights..l.weights + n],
+        &w[l.owners..l.owners + n],
+        w[room.loads + r],
         cap,
         from,
     )
 }
 
-// The group that rank r would restart from, UNASSIGNED where there is none. The search begins at the rank's cursor in the order, and takes it along.
-fn restart_for(w: &[u32], room: GrowthRoom, cap: u64, cursors: &mut [u32; 256], r: usize) -> u32
+// The group that rank r would restart from. The search begins at the rank's cursor in the order, and takes it along.
+fn restart_for(
+    w: &[u32],
+    room: GrowthRoom,
+    cap: u64,
+    cursors: &mut [u32; 256],
+    r: usize,
+) -> Option<u32>
     requires { GrowthReady room w.now × (r < room.ranks) × Behind cap room w.now cursors.old }
-    ensures { (held result ≡ restart_in cap room w.now r) × Behind cap room w.now cursors.new }
+    ensures { MatchOption result (restart_in cap room w.now r ≡ none) (λ g. restart_in cap room w.now r ≡ some g) × Behind cap room w.now cursors.new }
 {
-    let l = room.level;
-    let n = l.vertices;
-    let order = room.order;
-    let p = open_from(w, room, cap, r, index(cursors[r]));
+    let p = open_from(w, room, cap, r, cursors[r] as usize);
     cursors[r] = p as u32;
-    if p < n { w[order + p] } else { UNASSIGNED }
+    if p < room.level.vertices {
+        Some(w[room.order + p])
+    } else {
+        None
+    }
 }
 
-// Rank r's frontier is brought to its first open candidate: that candidate, UNASSIGNED if there is none.
-fn advance(work: &mut [u32], room: GrowthRoom, cap: u64, r: usize) -> u32
+// Rank r's frontier is brought to its first open candidate: that candidate, if there is one.
+fn advance(work: &mut [u32], room: GrowthRoom, cap: u64, r: usize) -> Option<u32>
     requires { GrowthReady room work.old × (r < room.ranks) }
     ensures { Advanced room cap work.old work.new r result }
 {
-    let c = sought(&work[..], room, cap, r);
-    let g = found(&work[..], room, c);
-    park(work, room, r, c);
+    let here = sought(work, room, cap, r);
+    let g = found(work, room, here);
+    park(work, room, r, here);
     g
 }
 
@@ -354,30 +288,41 @@ fn claim(work: &mut [u32], room: GrowthRoom, cap: u64, r: usize, g: u32)
     ensures { Claimed room work.old work.new r g }
 {
     own(work, room, r, g);
-    let counts = room.counts;
-    if work[counts + r] == 0 {
+    if work[room.counts + r] == 0 {
         begin(work, room, r, g);
-        return;
+    } else {
+        append(work, room, r, g);
     }
-    append(work, room, r, g);
 }
 
-// A rank's turn: 0 for a pass, 1 for a claim of its frontier, 2 for a restart.
-fn turn(work: &mut [u32], room: GrowthRoom, cap: u64, cursors: &mut [u32; 256], r: usize) -> u32
+// What a rank does at its turn: nothing, or it claims a group of its frontier, or another.
+#[derive(Clone, Copy)]
+enum TurnKind {
+    Pass,
+    Claim,
+    Restart,
+}
+
+// A rank's turn.
+fn turn(
+    work: &mut [u32],
+    room: GrowthRoom,
+    cap: u64,
+    cursors: &mut [u32; 256],
+    r: usize,
+) -> TurnKind
     requires { GrowthReady room work.old × (r < room.ranks) × Behind cap room work.old cursors.old }
     ensures { TurnMade room cap work.old work.new r result × Behind cap room work.new cursors.new }
 {
-    let g = advance(work, room, cap, r);
-    if g != UNASSIGNED {
+    if let Some(g) = advance(work, room, cap, r) {
         claim(work, room, cap, r, g);
-        return 1;
+        return TurnKind::Claim;
     }
-    let f = restart_for(&work[..], room, cap, cursors, r);
-    if f != UNASSIGNED {
-        claim(work, room, cap, r, f);
-        return 2;
+    if let Some(g) = restart_for(work, room, cap, cursors, r) {
+        claim(work, room, cap, r, g);
+        return TurnKind::Restart;
     }
-    0
+    TurnKind::Pass
 }
 
 // What a round did.
@@ -387,128 +332,54 @@ pub struct Tally {
     pub restarts: u64,
 }
 
-// 1 for a turn that claims a group.
-fn claim_of(x: u32) -> u64
-    ensures { result ≡ cond (eqb x 0) 0 1 }
-{
-    if x == 0 { 0 } else { 1 }
-}
-
-// 1 for a restart.
-fn restart_of(x: u32) -> u64
-    ensures { result ≡ cond (eqb x 2) 1 0 }
-{
-    if x == 2 { 1 } else { 0 }
-}
-
 // The ranks take their turns.
 fn round(work: &mut [u32], room: GrowthRoom, cap: u64, cursors: &mut [u32; 256]) -> Tally
     requires { GrowthReady room work.old × Behind cap room work.old cursors.old }
     ensures { Rounded room cap work.old work.new room.ranks result.claims result.restarts
         × Behind cap room work.new cursors.new }
 {
-    let k = room.ranks;
     let mut claims: u64 = 0;
     let mut restarts: u64 = 0;
-    let mut r: usize = 0;
-    while r < k {
-        let x = turn(work, room, cap, cursors, r);
-        claims += claim_of(x);
-        restarts += restart_of(x);
-        r += 1;
+    for r in 0..room.ranks {
+        match turn(work, room, cap, cursors, r) {
+            TurnKind::Pass => {}
+            TurnKind::Claim => claims += 1,
+            TurnKind::Restart => {
+                claims += 1;
+                restarts += 1;
+            }
+        }
     }
     Tally { claims, restarts }
 }
 
 // How many groups nobody owns.
-fn count_vacant(owners: &[u32]) -> u64
-    ensures { result ≡ vacant_in owners.now }
-{
-    let mut count: u64 = 0;
-    let mut i: usize = 0;
-    while i < owners.len() {
-        if owners[i] == UNASSIGNED {
-            count += 1;
-        }
-        i += 1;
-    }
-    count
-}
-
 fn vacant_in(w: &[u32], room: GrowthRoom) -> u64
     requires { GrowthLaid room (length w.now) }
     ensures { result ≡ vacant_in (memory_in room w.now).owners }
 {
     let l = room.level;
-    let owners = l.owners;
-    let n = l.vertices;
-    count_vacant(&w[owners..owners + n])
+    let owners = &w[l.owners..l.owners + l.vertices];
+    owners.iter().filter(|x| **x == UNASSIGNED).count() as u64
 }
 
-// A round, if a group is left that nobody owns.
-fn more(work: &mut [u32], room: GrowthRoom, cap: u64, cursors: &mut [u32; 256], left: u64) -> Tally
-    requires { GrowthReady room work.old × Behind cap room work.old cursors.old × (left ≡ vacant_in (memory_in room work.old).owners) }
-    ensures { More room cap work.old work.new result.claims result.restarts
-        × Behind cap room work.new cursors.new }
-{
-    if left == 0 {
-        return Tally {
-            claims: 0,
-            restarts: 0,
-        };
-    }
-    round(work, room, cap, cursors)
-}
-
-// A round without a claim is the last.
-fn next_round(i: usize, n: usize, claims: u64) -> usize
-    requires { i < n }
-    ensures { result ≡ cond (eqb claims 0) n (i + 1) }
-{
-    if claims == 0 { n } else { i + 1 }
-}
-
-// The restarts of a growth, or its refusal.
-#[derive(Clone, Copy)]
-pub enum Grown {
-    Owned(u64),
-    Refused(u32),
-}
-
-impl Grown {
-    // The refusal's number, 0 for none.
-    // Rules out: the restarts in place of 0; 8 for every refusal.
-    pub fn number(self) -> u32
-        ensures { result ≡ grown_number self }
-    {
-        match self {
-            Grown::Owned(_) => 0,
-            Grown::Refused(number) => number,
-        }
-    }
-}
-
-// Rounds until every group is owned or one passes without a claim: 8 if a group is left.
-fn grow(work: &mut [u32], room: GrowthRoom, cap: u64) -> Grown
+// Rounds until every group is owned; stuck where one passes without a claim.
+fn grow(work: &mut [u32], room: GrowthRoom, cap: u64) -> Result<u64, Refusal>
     requires { GrowthReady room work.old }
     ensures { GrownTo room cap work.old work.new result }
 {
-    let l = room.level;
-    let n = l.vertices;
     let mut cursors = [0u32; 256];
-    let mut left = vacant_in(&work[..], room);
+    let mut left = vacant_in(work, room);
     let mut restarts: u64 = 0;
-    let mut i: usize = 0;
-    while i < n {
-        let t = more(work, room, cap, &mut cursors, left);
+    while 0 < left {
+        let t = round(work, room, cap, &mut cursors);
+        if t.claims == NO_CLAIMS {
+            return Err(Refusal::GrowthStuck);
+        }
         restarts += t.restarts;
         left -= t.claims;
-        i = next_round(i, n, t.claims);
     }
-    if 0 < left {
-        return Grown::Refused(8);
-    }
-    Grown::Owned(restarts)
+    Ok(restarts)
 }
 
 // Nobody owns a group, and the chains are empty.
@@ -517,14 +388,10 @@ fn clear(work: &mut [u32], room: GrowthRoom)
     ensures { Cleared room work.old work.new }
 {
     let l = room.level;
-    let owners = l.owners;
-    let n = l.vertices;
-    let loads = room.loads;
-    let counts = room.counts;
     let k = room.ranks;
-    fill_part(work, owners, owners + n, UNASSIGNED);
-    fill_part(work, loads, loads + k, 0);
-    fill_part(work, counts, counts + k, 0);
+    work[l.owners..l.owners + l.vertices].fill(UNASSIGNED);
+    work[room.loads..room.loads + k].fill(0);
+    work[room.counts..room.counts + k].fill(0);
 }
 
 // Rank r owns its seed, and the seed is its chain.
@@ -541,17 +408,14 @@ fn seat_all(work: &mut [u32], room: GrowthRoom)
     requires { Blank room work.old }
     ensures { Seated room work.old work.new 0 }
 {
-    let seeds = room.seeds;
-    let mut r = room.ranks;
-    while 0 < r {
-        r -= 1;
-        let g = work[seeds + r];
+    for r in (0..room.ranks).rev() {
+        let g = work[room.seeds + r];
         seat(work, room, r, g);
     }
 }
 
 // Growth from its seeds.
-fn multisource(work: &mut [u32], room: GrowthRoom, cap: u64) -> Grown
+fn multisource(work: &mut [u32], room: GrowthRoom, cap: u64) -> Result<u64, Refusal>
     requires { Sown room work.old }
     ensures { Multisource room cap work.old work.new result }
 {
@@ -561,28 +425,15 @@ fn multisource(work: &mut [u32], room: GrowthRoom, cap: u64) -> Grown
 }
 
 // Is a weight above the cap?
-fn any_heavy(weights: &[u32], cap: u64) -> bool
-    ensures { result ≡ too_heavy cap weights.now }
-{
-    let mut i: usize = 0;
-    while i < weights.len() {
-        if cap < wide(weights[i]) {
-            return true;
-        }
-        i += 1;
-    }
-    false
-}
-
 fn heavy_in(w: &[u32], l: HierarchyLevel, cap: u64) -> bool
     requires { l.weights + l.vertices ≤ length w.now }
     ensures { result ≡ too_heavy cap (weights_at w.now l) }
 {
-    let weights = l.weights;
-    let n = l.vertices;
-    any_heavy(&w[weights..weights + n], cap)
+    let weights = &w[l.weights..l.weights + l.vertices];
+    weights.iter().any(|x| cap < u64::from(*x))
 }
 
+// Where a growth lies from `scratch` on.
 fn room_at(l: HierarchyLevel, scratch: usize, ranks: usize) -> GrowthRoom
     requires { scratch + 3 * l.vertices + 5 * ranks < 2 ^ 64 }
     ensures { result ≡ room_at l scratch ranks }
@@ -603,24 +454,24 @@ fn room_at(l: HierarchyLevel, scratch: usize, ranks: usize) -> GrowthRoom
     }
 }
 
-// Rule 5: the ranks grow from rule 4's seeds. 6 for a group weight above the cap, 7 for fewer groups than ranks, 8 for a round without a claim.
-// Rules out: a restart while a group of the frontier fits; 8 before a claim was tried; a claim beyond the cap.
+// Rule 5: the ranks grow from rule 4's seeds: the restarts. Refused in this order: a group weight above the cap, fewer groups than ranks, a round without
+// a claim.
+// Rules out: a restart while a group of the frontier fits; a refusal before a claim was tried; a claim beyond the cap.
 pub fn weighted_multisource_partition(
     work: &mut [u32],
     l: HierarchyLevel,
     scratch: usize,
     ranks: usize,
     cap: u64,
-) -> Grown
+) -> Result<u64, Refusal>
     requires { Growable work.old l scratch ranks }
     ensures { GrownTold work.old work.new l scratch ranks cap result }
 {
-    let n = l.vertices;
-    if heavy_in(&work[..], l, cap) {
-        return Grown::Refused(6);
+    if heavy_in(work, l, cap) {
+        return Err(Refusal::GroupAboveCap);
     }
-    if n < ranks {
-        return Grown::Refused(7);
+    if l.vertices < ranks {
+        return Err(Refusal::FewerGroupsThanRanks);
     }
     farthest_seeds(work, l, scratch, ranks);
     order_by_degree(work, l, scratch);

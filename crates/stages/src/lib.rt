@@ -11,9 +11,9 @@ mod seeds;
 mod slots;
 mod swaps;
 
-pub use coarsen::{Coarsened, coarsen_once_cached};
-pub use growth::{Grown, weighted_multisource_partition};
+pub use coarsen::{Smaller, coarsen_once_cached};
+pub use growth::weighted_multisource_partition;
 pub use level::{HierarchyLevel, Limits};
-pub use moves::{Refined, refine_by_cut};
+pub use moves::refine_by_cut;
 pub use seeds::farthest_seeds;
 pub use swaps::{Swapping, refine_fine_pair_swaps};

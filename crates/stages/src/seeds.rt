@@ -1,22 +1,17 @@
 // Rule 4: seeds. From `scratch` on lie the distance of each vertex to the nearest seed, the queue of a search, and the seeds.
-ghost use Rattle.std.specs.Prelude.{◌≡◌, ◌⊎◌, ℕ, ◌<◌};
-ghost use Rattle.links.specs.Lists.{unassigned};
-ghost use Rattle.links.specs.Best.{step_best};
-ghost use Rattle.stages.specs.SeedsCode.{from, Search, Relaxing, Relaxed, Scannable, Scanned, Lowerable, Lowered, ahead, unseeded, farthest, degree_at, Choosing, Seedable, Seeded};
+ghost use Rattle.std.specs.Prelude.{◌≡◌, ℕ, ◌<◌, IfSome};
+ghost use Rattle.stages.specs.SeedsCode.{from, Search, Relaxing, Relaxed, Scannable, Scanned, Lowerable, Lowered, farther_of, farthest, degree_at, Choosing, Seedable, Seeded};
 
-use super::level::HierarchyLevel;
-use links::{fill_part, index};
-
-const UNASSIGNED: u32 = 4294967295;
+use super::level::{HierarchyLevel, UNASSIGNED};
+use links::fill_part;
 
 // Lowers the distance of x to d + 1 and appends x to the queue, if x is farther. The queue's end.
 fn relax(work: &mut [u32], l: HierarchyLevel, scratch: usize, x: u32, d: u32, t: usize) -> usize
     requires { Relaxing work.old l scratch x d t }
     ensures { Relaxed work.old work.new l scratch x d t result }
 {
-    let n = l.vertices;
-    let queue = scratch + n;
-    let at = scratch + index(x);
+    let queue = scratch + l.vertices;
+    let at = scratch + x as usize;
     if d + 1 < work[at] {
         work[at] = d + 1;
         work[queue + t] = x;
@@ -30,73 +25,70 @@ fn scan(work: &mut [u32], l: HierarchyLevel, scratch: usize, u: usize, t: usize)
     requires { (g : Search) × (h : ℕ) × Scannable g h work.old l scratch u t }
     ensures { (g : Search) (h : ℕ) → Scannable g h work.old l scratch u t → Scanned g h work.old work.new l scratch result }
 {
-    let offsets = l.offsets;
-    let neighbors = l.neighbors;
     let d = work[scratch + u];
-    let e = index(work[offsets + (u + 1)]);
-    let mut j = index(work[offsets + u]);
+    let a = work[l.offsets + u] as usize;
+    let e = work[l.offsets + (u + 1)] as usize;
     let mut tail = t;
-    while j < e {
-        let x = work[neighbors + j];
+    for j in a..e {
+        let x = work[l.neighbors + j];
         tail = relax(work, l, scratch, x, d, tail);
-        j += 1;
     }
     tail
 }
 
 // Lowers the distances from the new seed s, going on only from what it lowered. How many it lowered: each waited once.
+// The queue grows while it is read, so that its end is no range's.
 fn lower(work: &mut [u32], l: HierarchyLevel, scratch: usize, s: u32) -> usize
     requires { (g : Search) × Lowerable g work.old l scratch s }
     ensures { (g : Search) → Lowerable g work.old l scratch s → Lowered g work.old work.new l scratch result }
 {
-    let n = l.vertices;
-    let queue = scratch + n;
-    let at = scratch + index(s);
+    let queue = scratch + l.vertices;
+    let at = scratch + s as usize;
     work[at] = 0;
     work[queue] = s;
-    let mut t: usize = 1;
-    let mut h: usize = 0;
+    let mut t = 1;
+    let mut h = 0;
     while h < t {
-        let u = index(work[queue + h]);
+        let u = work[queue + h] as usize;
         t = scan(work, l, scratch, u, t);
         h += 1;
     }
     t
 }
 
-// How many neighbors v has.
+// How many neighbors v has, as HierarchyLevel::degree says it; here nothing is known of the neighbors, only that the offsets rise.
 fn degree_of(work: &[u32], l: HierarchyLevel, scratch: usize, v: u32) -> u32
     requires { Choosing work.now l scratch × (v < l.vertices) }
     ensures { result ≡ degree_at work.now l v }
 {
-    let offsets = l.offsets;
-    let i = index(v);
-    work[offsets + (i + 1)] - work[offsets + i]
+    let i = v as usize;
+    work[l.offsets + (i + 1)] - work[l.offsets + i]
 }
 
-// The better of the best so far and i.
-fn farther(work: &[u32], l: HierarchyLevel, scratch: usize, best: u32, i: u32) -> u32
-    requires { Choosing work.now l scratch × (i < l.vertices) × ((best ≡ unassigned) ⊎ (best < l.vertices)) }
-    ensures { result ≡ step_best (ahead (from work.now scratch) (degree_at work.now l)) (unseeded (from work.now scratch)) best i }
+// The better of the best so far and i, if i is no seed.
+fn farther(
+    work: &[u32],
+    l: HierarchyLevel,
+    scratch: usize,
+    best: Option<u32>,
+    i: u32,
+) -> Option<u32>
+    requires { Choosing work.now l scratch × (i < l.vertices) × IfSome best (λ b. b < l.vertices) }
+    ensures { result ≡ farther_of (from work.now scratch) (degree_at work.now l) best i }
 {
-    let p = index(i);
-    let a = work[scratch + p];
+    let a = work[scratch + i as usize];
     if a == 0 {
         return best;
     }
-    if best == UNASSIGNED {
-        return i;
-    }
-    let q = index(best);
-    let b = work[scratch + q];
+    let Some(old) = best else {
+        return Some(i);
+    };
+    let b = work[scratch + old as usize];
     if b < a {
-        return i;
+        return Some(i);
     }
-    if a == b {
-        if degree_of(work, l, scratch, best) < degree_of(work, l, scratch, i) {
-            return i;
-        }
-        return best;
+    if a == b && degree_of(work, l, scratch, old) < degree_of(work, l, scratch, i) {
+        return Some(i);
     }
     best
 }
@@ -106,14 +98,11 @@ fn next_seed(work: &[u32], l: HierarchyLevel, scratch: usize) -> u32
     requires { Choosing work.now l scratch }
     ensures { result ≡ farthest (from work.now scratch) (degree_at work.now l) l.vertices }
 {
-    let n = l.vertices;
-    let mut best: u32 = UNASSIGNED;
-    let mut i: usize = 0;
-    while i < n {
+    let mut best = None;
+    for i in 0..l.vertices {
         best = farther(work, l, scratch, best, i as u32);
-        i += 1;
     }
-    if best == UNASSIGNED { 0 } else { best }
+    best.unwrap_or(0)
 }
 
 // Rule 4: a seed for each rank.
@@ -122,14 +111,11 @@ pub fn farthest_seeds(work: &mut [u32], l: HierarchyLevel, scratch: usize, ranks
     requires { Seedable work.old l scratch ranks }
     ensures { Seeded work.old work.new l scratch ranks }
 {
-    let n = l.vertices;
-    let seeds = scratch + 2 * n;
-    fill_part(work, scratch, scratch + n, UNASSIGNED);
-    let mut r: usize = 0;
-    while r < ranks {
-        let s = next_seed(&work[..], l, scratch);
+    let seeds = scratch + 2 * l.vertices;
+    fill_part(work, scratch, scratch + l.vertices, UNASSIGNED);
+    for r in 0..ranks {
+        let s = next_seed(work, l, scratch);
         work[seeds + r] = s;
         lower(work, l, scratch, s);
-        r += 1;
     }
 }

@@ -1,5 +1,5 @@
 // Rule 7: swaps on the finest level, over one lent work slice.
-ghost use Rattle.std.specs.Prelude.{◌≡◌, false, List, [], ◌∷◌, ℕ, ◌+◌, ◌-◌, ◌*◌, ◌≤◌, ◌<◌, ◌^◌, length};
+ghost use Rattle.std.specs.Prelude.{◌≡◌, List, [], ◌∷◌, ℕ, ◌+◌, ◌-◌, ◌*◌, ◌≤◌, ◌<◌, ◌^◌, length};
 ghost use Rattle.links.specs.Lists.{at, All, foldl};
 ghost use Rattle.links.specs.Parts.{part};
 ghost use Rattle.links.specs.Graph.{row, links_in, links_to, load};
@@ -15,7 +15,7 @@ use crate::keys::{gain_of, key_of, offer, vertex_of};
 use crate::level::{HierarchyLevel, Limits};
 use crate::moves::{clear, owner_at, owner_in, row_start, tally, weigh, weight_in};
 use crate::slots::add;
-use links::{between, holds, index, wide};
+use links::holds;
 
 // What the gains of two candidates that gain nothing add up to.
 const NO_GAIN: u32 = 32768;
@@ -43,25 +43,14 @@ pub struct Swapping {
     pub passes: u64,
 }
 
-// ---- rows
-
-// The neighbors of v.
-fn row_of<'a>(w: &'a [u32], s: SwapRoom, v: usize) -> &'a [u32]
-    requires { Given w.now s × (v < s.level.vertices) }
-    ensures { result.now ≡ row (rows_at w.now s.level) v }
-{
-    let neighbors = s.level.neighbors;
-    let a = neighbors + row_start(w, s.level, v);
-    let e = neighbors + row_start(w, s.level, v + 1);
-    &w[a..e]
-}
+// ---- links
 
 // 1 where u and v are linked.
 fn linked(w: &[u32], s: SwapRoom, u: usize, v: usize) -> u32
     requires { Given w.now s × (u < s.level.vertices) }
     ensures { (result ≤ 1) × (result ≡ linked (rows_at w.now s.level) u v) }
 {
-    if holds(row_of(w, s, u), v) { 1 } else { 0 }
+    u32::from(holds(s.level.row(w, u), v))
 }
 
 // ---- candidates
@@ -88,17 +77,13 @@ fn offer_entry(work: &mut [u32], s: SwapRoom, a: usize, v: u32, i: usize)
         × AllSorted work.old s × FewTallied work.old s × (v < s.level.vertices) }
     ensures { OfferedEntry work.old work.new s a v i }
 {
-    let b = owner_at(&work[..], s.level, i);
-    if b == a {
+    let b = owner_at(work, s.level, i);
+    let there = work[s.tallies + b];
+    if b == a || there == 0 {
         return;
     }
-    let tallies = s.tallies;
-    let there = work[tallies + b];
-    if there == 0 {
-        return;
-    }
-    let home = work[tallies + a];
-    work[tallies + b] = 0;
+    let home = work[s.tallies + a];
+    work[s.tallies + b] = 0;
     offer_part(
         work,
         list_at(s, a, b),
@@ -114,11 +99,8 @@ fn offer_row(work: &mut [u32], s: SwapRoom, a: usize, v: usize)
     ensures { Offering work.old work.new s a v (at (offsets_at work.old s.level) (v + 1))
         (at (offsets_at work.old s.level) (v + 1)) × AllSorted work.new s }
 {
-    let end = row_start(&work[..], s.level, v + 1);
-    let mut i = row_start(&work[..], s.level, v);
-    while i < end {
+    for i in row_start(work, s.level, v)..row_start(work, s.level, v + 1) {
         offer_entry(work, s, a, v as u32, i);
-        i += 1;
     }
 }
 
@@ -127,11 +109,10 @@ fn list_counted(work: &mut [u32], s: SwapRoom, v: usize)
     requires { Given work.old s × (v < s.level.vertices) × Clear work.old s.tallies s.limits.ranks × AllSorted work.old s }
     ensures { Listed work.old work.new s v }
 {
-    let a = owner_in(&work[..], s.level, v);
+    let a = owner_in(work, s.level, v);
     tally(work, s.level, s.tallies, s.limits.ranks, v);
     offer_row(work, s, a, v);
-    let tallies = s.tallies;
-    work[tallies + a] = 0;
+    work[s.tallies + a] = 0;
 }
 
 // Whether v has a neighbor of another rank.
@@ -140,15 +121,10 @@ fn borders(w: &[u32], s: SwapRoom, v: usize) -> bool
     ensures { result ≡ bordering (rows_at w.now s.level) (owners_at w.now s.level) v }
 {
     let home = owner_in(w, s.level, v);
-    let end = row_start(w, s.level, v + 1);
-    let mut i = row_start(w, s.level, v);
-    while i < end {
-        if owner_at(w, s.level, i) != home {
-            return true;
-        }
-        i += 1;
-    }
-    false
+    s.level
+        .row(w, v)
+        .iter()
+        .any(|u| owner_in(w, s.level, *u as usize) != home)
 }
 
 // v is listed as a candidate, which only a vertex on a border can be.
@@ -156,7 +132,7 @@ fn list_vertex(work: &mut [u32], s: SwapRoom, v: usize)
     requires { Given work.old s × (v < s.level.vertices) × Clear work.old s.tallies s.limits.ranks × AllSorted work.old s }
     ensures { Listed work.old work.new s v }
 {
-    if borders(&work[..], s, v) {
+    if borders(work, s, v) {
         list_counted(work, s, v);
     }
 }
@@ -166,17 +142,15 @@ fn list_all(work: &mut [u32], s: SwapRoom)
     requires { Given work.old s × Clear work.old s.tallies s.limits.ranks × Empty work.old s × AllSorted work.old s }
     ensures { ListedAll work.old work.new s }
 {
-    let n = s.level.vertices;
-    let mut v = 0;
-    while v < n {
+    for v in 0..s.level.vertices {
         list_vertex(work, s, v);
-        v += 1;
     }
 }
 
 // ---- proposals
 
 // The product of two candidates joins the proposals. Whether they are linked is asked only where they gain without that.
+#[tactic(auto, unfolding(crate::specs::SwapsCode::proposed, crate::specs::SwapsCode::product_of))]
 fn propose(list: &mut [u32], room: usize, w: &[u32], s: SwapRoom, x: u32, y: u32)
     requires { Given w.now s × (length list.old ≡ 3 * room) × Within s.level.vertices x × Within s.level.vertices y }
     ensures { slots proposal room list.new
@@ -188,7 +162,7 @@ fn propose(list: &mut [u32], room: usize, w: &[u32], s: SwapRoom, x: u32, y: u32
     }
     let u = vertex_of(x);
     let v = vertex_of(y);
-    let none = NO_GAIN + 2 * linked(w, s, index(u), index(v));
+    let none = NO_GAIN + 2 * linked(w, s, u as usize, v as usize);
     if none < gains {
         add(list, room, gains - none, u, v);
     }
@@ -201,14 +175,11 @@ fn propose_row(list: &mut [u32], room: usize, w: &[u32], s: SwapRoom, x: u32, ba
     ensures { slots proposal room list.new
         ≡ foldl (proposed room (rows_at w.now s.level) x) (slots proposal room list.old) (filled back.now) }
 {
-    let mut j: usize = 0;
-    while j < back.len() {
-        let y = back[j];
-        if y == 0 {
+    for y in back {
+        if *y == 0 {
             return;
         }
-        propose(list, room, w, s, x, y);
-        j += 1;
+        propose(list, room, w, s, x, *y);
     }
 }
 
@@ -220,41 +191,22 @@ fn propose_all(list: &mut [u32], room: usize, w: &[u32], s: SwapRoom, fore: &[u3
         ≡ foldl (λ ps x. foldl (proposed room (rows_at w.now s.level) x) ps (filled back.now))
         (slots proposal room list.old) (filled fore.now) }
 {
-    let mut i: usize = 0;
-    while i < fore.len() {
-        let x = fore[i];
-        if x == 0 {
+    for x in fore {
+        if *x == 0 {
             return;
         }
-        propose_row(list, room, w, s, x, back);
-        i += 1;
+        propose_row(list, room, w, s, *x, back);
     }
 }
 
 // ---- whether a swap applies
-
-// a − b, or 0.
-fn less(a: u32, b: u32) -> u32
-    ensures { result ≡ a - b }
-{
-    if b < a { a - b } else { 0 }
-}
 
 // How many of a row's vertices rank r owns.
 fn links_in(row: &[u32], owners: &[u32], r: u32) -> u32
     requires { (length row.now ≤ 131072) × ((i : ℕ) → i < length row.now → at row.now i < length owners.now) }
     ensures { (result ≤ length row.now) × (result ≡ links_in row.now owners.now r) }
 {
-    let mut n: u32 = 0;
-    let mut i: usize = 0;
-    while i < row.len() {
-        let u = index(row[i]);
-        if owners[u] == r {
-            n += 1;
-        }
-        i += 1;
-    }
-    n
+    row.iter().filter(|u| owners[**u as usize] == r).count() as u32
 }
 
 // How many of v's neighbors rank r owns.
@@ -264,32 +216,32 @@ fn links_to(w: &[u32], s: SwapRoom, v: usize, r: u32) -> u32
 {
     let a = s.level.owners;
     let e = a + s.level.vertices;
-    links_in(row_of(w, s, v), &w[a..e], r)
+    links_in(s.level.row(w, v), &w[a..e], r)
 }
 
 // What a swap of u and v gains from present owners; 0 if that is not above 0.
+#[tactic(auto, unfolding(crate::specs::Moves::gain))]
 fn swap_gain(w: &[u32], s: SwapRoom, u: usize, v: usize) -> u32
     requires { Given w.now s × (u < s.level.vertices) × (v < s.level.vertices) }
     ensures { result ≡ gain (rows_at w.now s.level) (owners_at w.now s.level) (swap u v) }
 {
-    let owners = s.level.owners;
-    let a = w[owners + u];
-    let b = w[owners + v];
-    let x = less(links_to(w, s, u, b), linked(w, s, u, v));
-    let y = less(links_to(w, s, v, a), linked(w, s, v, u));
+    let a = w[s.level.owners + u];
+    let b = w[s.level.owners + v];
+    let x = links_to(w, s, u, b).saturating_sub(linked(w, s, u, v));
+    let y = links_to(w, s, v, a).saturating_sub(linked(w, s, v, u));
     let home = links_to(w, s, u, a) + links_to(w, s, v, b);
-    less(x + y, home)
+    (x + y).saturating_sub(home)
 }
 
 // Whether a load is from floor to cap, and still is once it gives x for y.
+#[tactic(auto, unfolding(crate::specs::SwapsCode::fair_trade))]
 fn fair_trade(limits: Limits, load: u32, x: u32, y: u32) -> bool
     requires { x ≤ load }
     ensures { result ≡ fair_trade limits.floor limits.cap load x y }
 {
-    if between(limits.floor, limits.cap, wide(load)) {
-        return between(limits.floor, limits.cap, wide(load - x) + wide(y));
-    }
-    false
+    let fair = limits.floor..=limits.cap;
+    let left = u64::from(load - x) + u64::from(y);
+    fair.contains(&u64::from(load)) && fair.contains(&left)
 }
 
 // Whether u's rank gives u for v within floor and cap.
@@ -299,11 +251,10 @@ fn trades_fairly(w: &[u32], s: SwapRoom, u: usize, v: usize) -> bool
         (load (weights_at w.now s.level) (owners_at w.now s.level) (at (owners_at w.now s.level) u))
         (at (weights_at w.now s.level) u) (at (weights_at w.now s.level) v) }
 {
-    let loads = s.loads;
     let r = owner_in(w, s.level, u);
     let x = weight_in(w, s.level, u);
     let y = weight_in(w, s.level, v);
-    fair_trade(s.limits, w[loads + r], x, y)
+    fair_trade(s.limits, w[s.loads + r], x, y)
 }
 
 // Whether the swap of u and v applies.
@@ -313,20 +264,11 @@ fn applies(w: &[u32], s: SwapRoom, u: usize, v: usize) -> bool
         → result ≡ applies (balance_in s.limits) (rows_at w.now s.level) (weights_at w.now s.level) used
         (owners_at w.now s.level) u v }
 {
-    let used = s.used;
-    if w[used + u] != 0 {
-        return false;
-    }
-    if w[used + v] != 0 {
-        return false;
-    }
-    if swap_gain(w, s, u, v) == NO_SWAP_GAIN {
-        return false;
-    }
-    if trades_fairly(w, s, u, v) {
-        return trades_fairly(w, s, v, u);
-    }
-    false
+    w[s.used + u] == 0
+        && w[s.used + v] == 0
+        && swap_gain(w, s, u, v) != NO_SWAP_GAIN
+        && trades_fairly(w, s, u, v)
+        && trades_fairly(w, s, v, u)
 }
 
 // ---- one swap
@@ -336,17 +278,13 @@ fn change(work: &mut [u32], s: SwapRoom, u: usize, v: usize)
     requires { Given work.old s × (u < s.level.vertices) × (v < s.level.vertices) }
     ensures { work.new ≡ changed work.old s u v }
 {
-    let owners = s.level.owners;
-    let used = s.used;
-    let a = work[owners + u];
-    let b = work[owners + v];
-    work[owners + u] = b;
-    work[owners + v] = a;
-    work[used + u] = 1;
-    work[used + v] = 1;
+    work.swap(s.level.owners + u, s.level.owners + v);
+    work[s.used + u] = 1;
+    work[s.used + v] = 1;
 }
 
 // Rank a's load gives x for y, and rank b's y for x.
+#[tactic(auto, unfolding(crate::specs::SwapsCode::traded))]
 fn trade(work: &mut [u32], loads: usize, a: usize, b: usize, x: u32, y: u32)
     requires { Tradable work.old loads a b x y }
     ensures { work.new ≡ traded work.old loads a b x y }
@@ -360,10 +298,10 @@ fn swap(work: &mut [u32], s: SwapRoom, u: usize, v: usize)
     requires { Standing work.old s × (u < s.level.vertices) × (v < s.level.vertices) }
     ensures { Swapped work.old work.new s u v }
 {
-    let a = owner_in(&work[..], s.level, u);
-    let b = owner_in(&work[..], s.level, v);
-    let x = weight_in(&work[..], s.level, u);
-    let y = weight_in(&work[..], s.level, v);
+    let a = owner_in(work, s.level, u);
+    let b = owner_in(work, s.level, v);
+    let x = weight_in(work, s.level, u);
+    let y = weight_in(work, s.level, v);
     change(work, s, u, v);
     trade(work, s.loads, a, b, x, y);
 }
@@ -373,11 +311,12 @@ fn try_swap(work: &mut [u32], s: SwapRoom, u: usize, v: usize) -> u32
     requires { Standing work.old s × (u < s.level.vertices) × (v < s.level.vertices) }
     ensures { (result ≤ 1) × ((g : ℕ) → Taken work.old work.new s result (proposal g u v ∷ [])) }
 {
-    if applies(&work[..], s, u, v) {
+    if applies(work, s, u, v) {
         swap(work, s, u, v);
-        return 1;
+        1
+    } else {
+        0
     }
-    0
 }
 
 // The proposals of n slots are taken in their order: the number of swaps.
@@ -385,14 +324,12 @@ fn take_all(work: &mut [u32], s: SwapRoom, list: &[u32], n: usize) -> u32
     requires { Standing work.old s × (length list.now ≡ 3 * n) × (n < 2 ^ 32) × All (Named s.level.vertices) (slots proposal n list.now) }
     ensures { (result ≤ n) × Taken work.old work.new s result (slots proposal n list.now) }
 {
-    let mut done: u32 = 0;
-    let mut j = 0;
-    while j < n {
+    let mut done = 0;
+    for j in 0..n {
         if list[3 * j] == 0 {
-            return done;
+            break;
         }
-        done = done + try_swap(work, s, index(list[3 * j + 1]), index(list[3 * j + 2]));
-        j += 1;
+        done += try_swap(work, s, list[3 * j + 1] as usize, list[3 * j + 2] as usize);
     }
     done
 }
@@ -418,7 +355,7 @@ fn swap_proposed(work: &mut [u32], s: SwapRoom, x: usize, y: usize, list: &mut [
     let room = product_count(n);
     let w = &work[..];
     propose_all(list, room, w, s, &w[x..x + n], &w[y..y + n]);
-    take_all(work, s, &list[..], room)
+    take_all(work, s, list, room)
 }
 
 // The swaps of two ranks, whose lists begin at x and at y.
@@ -440,10 +377,7 @@ fn swap_pair(work: &mut [u32], s: SwapRoom, a: usize, b: usize) -> u32
 {
     let x = list_at(s, a, b);
     let y = list_at(s, b, a);
-    if work[x] == 0 {
-        return 0;
-    }
-    if work[y] == 0 {
+    if work[x] == 0 || work[y] == 0 {
         return 0;
     }
     swap_listed(work, s, x, y)
@@ -455,11 +389,9 @@ fn swap_rank(work: &mut [u32], s: SwapRoom, a: usize) -> u32
     ensures { (result ≤ 36864) × ((owners : List ℕ) → Holding work.old s owners
         → Taken work.old work.new s result (rank_proposals s.list_length (rows_at work.old s.level) owners a s.limits.ranks)) }
 {
-    let mut done: u32 = 0;
-    let mut b = a + 1;
-    while b < s.limits.ranks {
-        done = done + swap_pair(work, s, a, b);
-        b += 1;
+    let mut done = 0;
+    for b in a + 1..s.limits.ranks {
+        done += swap_pair(work, s, a, b);
     }
     done
 }
@@ -470,11 +402,9 @@ fn swap_ranks(work: &mut [u32], s: SwapRoom) -> u32
     ensures { (result ≤ 9437184) × ((owners : List ℕ) → Holding work.old s owners
         → Taken work.old work.new s result (all_proposals s.list_length (rows_at work.old s.level) s.limits.ranks owners)) }
 {
-    let mut done: u32 = 0;
-    let mut a = 0;
-    while a < s.limits.ranks {
-        done = done + swap_rank(work, s, a);
-        a += 1;
+    let mut done = 0;
+    for a in 0..s.limits.ranks {
+        done += swap_rank(work, s, a);
     }
     done
 }
@@ -496,15 +426,13 @@ fn swap_passes(work: &mut [u32], s: SwapRoom, passes: u64) -> u64
     requires { Standing work.old s × Clear work.old s.tallies s.limits.ranks }
     ensures { Stepped work.old work.new s (swaps_at work.old s.level s.limits (swapping_in s passes)) result }
 {
-    let mut total: u64 = 0;
-    let mut p: u64 = 0;
-    while p < passes {
+    let mut total = 0;
+    for _ in 0..passes {
         let swaps = swap_pass(work, s);
-        p += 1;
         if swaps == 0 {
-            return total;
+            break;
         }
-        total = total + wide(swaps);
+        total += u64::from(swaps);
     }
     total
 }
@@ -524,18 +452,17 @@ pub fn refine_fine_pair_swaps(
     requires { Swappable work.old l scratch lists limits.ranks swapping.list_length }
     ensures { RefinedBySwaps work.old work.new l scratch limits swapping result }
 {
-    let n = l.vertices;
-    let ranks = limits.ranks;
+    let loads = scratch + l.vertices;
     let s = SwapRoom {
         level: l,
         limits,
         used: scratch,
-        loads: scratch + n,
-        tallies: scratch + n + ranks,
+        loads,
+        tallies: loads + limits.ranks,
         lists,
         list_length: swapping.list_length,
     };
-    clear(work, scratch + n, 2 * ranks);
-    weigh(work, l, scratch + n, ranks);
+    clear(work, loads, 2 * limits.ranks);
+    weigh(work, l, loads, limits.ranks);
     swap_passes(work, s, swapping.passes)
 }

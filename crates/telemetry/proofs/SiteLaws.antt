@@ -1,6 +1,12 @@
 -- One site: its tests in their order and what they leave, its counts by loops over ranks and vertices, and its answer. Assumes nothing.
-use Rattle.std.proofs.Common.{◌≡◌, ℕ, zero, suc, ◌+◌, ◌-◌, ◌*◌, ◌<◌, ◌≤◌, max, Bool, cond, eqb, ◌≢◌, List, [], ◌∷◌, ◌++◌, map, length, set, replicate, sym, refl, ap, ◌∙◌, mul_comm, add-one, arith, eq-eqb, ne_eqb, eqb-true}
+use Rattle.std.proofs.Common.{◌≡◌, ℕ, zero, suc, ◌+◌, ◌*◌, ◌<◌, ◌≤◌, max, Bool, cond, eqb, ◌≢◌, List, [], ◌∷◌, ◌++◌, map, length, set, sym, refl, ap, ◌∙◌, mul_comm, add-one, arith, eq-eqb, ne_eqb, eqb-true}
 use mathlib.Core.List.{map-append}
+use lib.ListN.{take}
+use lib.Seq.{take-suc}
+use Rattle.std.specs.Prelude.{Option, Result, Ok, Err}
+use Rattle.std.specs.Option.{unwrap_or, option_map}
+use Rattle.std.proofs.lemmas.Iterator.Adapters.{option_map_id}
+use Rattle.std.specs.List.{fold, reduce}
 use borrow.Author.Tests.{eqb-false}
 use Rattle.links.specs.Lists.{at, filter, range, sum, greatest}
 use Rattle.links.specs.Parts.{table}
@@ -9,12 +15,15 @@ use Rattle.links.specs.Owners.{from_owners}
 use Rattle.links.proofs.ListLaws.{split, eqb-sym, total_ext, total-same, sum-append, filter-append, greatest-is, length-range}
 use Rattle.links.proofs.ListTestLaws.{site-passed, at-range}
 use Rattle.links.proofs.OwnerLaws.{Assigned, assigned, owned-all}
-use Rattle.links.proofs.PartLaws.{get_or-table, table-zero, table-add}
+use Rattle.links.proofs.PartLaws.{get_or-table, table-add}
 use Rattle.links.proofs.RangeLaws.{range_snoc}
 use Rattle.links.proofs.RowLaws.{length-rows, row-always, degree-few}
 use Rattle.telemetry.specs.Telemetry.{float, ratio, local_entries, most_owned, telemetry_cause, telemetry_of, telemetry_for, TelemetryTold}
 use Rattle.telemetry.specs.declared.site.PartitionTelemetry.{PartitionTelemetry}
-use Rattle.telemetry.specs.declared.site.Telemetry.TheVariants.{Measured, Refused}
+use Rattle.std.specs.Result.{IsErrAnd}
+use Rattle.links.specs.Refusals.{refusal_number}
+use Rattle.links.specs.declared.refusal.Refusal.{Refusal}
+use Rattle.links.proofs.RefusalLaws.{refusal-some}
 use Rattle.telemetry.proofs.RatioLaws.{ratio-even}
 
 -- ---- the tests in their order
@@ -63,21 +72,31 @@ module _ (offsets neighbors : List ℕ) (k : ℕ) (owners : List ℕ) where
     pub passed-owners : Assigned k owners
     passed-owners = assigned k owners p.own
 
--- ---- the greatest of f from i on
+-- ---- the greatest of a list's first numbers
 
-module _ (f : ℕ → ℕ) (i n : ℕ) (most : ℕ) where
-  pub greatest-more : i < n → max (max most (f i)) (greatest (map f (range (i + 1) (n - (i + 1))))) ≡ max most (greatest (map f (range i (n - i))))
-  greatest-more h =
-      let e : n - i ≡ suc (n - (i + 1)) = omega arith in
-      rw (e, add-one) (omega arith)
+fold-max : (a : ℕ) (xs : List ℕ) → fold max a xs ≡ max a (greatest xs)
+fold-max a [] = omega arith
+fold-max a (x ∷ xs) = fold-max (max a x) xs ∙ omega arith
 
-  pub greatest-done : n ≤ i → max most (greatest (map f (range i (n - i)))) ≡ most
-  greatest-done h =
-      let e : n - i ≡ 0 = omega arith in
-      rw e (omega arith)
+reduce-max : (xs : List ℕ) → unwrap_or (reduce max xs) 0 ≡ greatest xs
+reduce-max [] = refl
+reduce-max (x ∷ xs) = fold-max x xs
 
-pub greatest-start : (f : ℕ → ℕ) (n : ℕ) → max 0 (greatest (map f (range 0 (n - 0)))) ≡ greatest (map f (range 0 n))
-greatest-start f n = let e : n - 0 ≡ n = omega arith in rw e (omega arith)
+take-places : (xs : List ℕ) (k : ℕ) → k ≤ length xs → take k xs ≡ map (at xs) (range 0 k)
+take-places xs zero h = refl
+take-places xs (suc k) h =
+    take-suc xs k 0 (omega arith)
+    ∙ ap (λ (l : List ℕ). l ++ (at xs k ∷ [])) (take-places xs k (omega arith))
+    ∙ sym (ap (map (at xs)) (range_snoc 0 k k (omega arith)) ∙ map-append (at xs) (range 0 k) (k ∷ []))
+
+-- what `max` answers, 0 where there is none
+pub greatest-picked
+    : (most : Option ℕ) (xs : List ℕ) (k : ℕ)
+    → option_map (λ (x : ℕ). x) most ≡ reduce max (take k xs)
+    → k ≤ length xs
+    → unwrap_or most 0 ≡ greatest (map (at xs) (range 0 k))
+greatest-picked most xs k e h =
+    ap (λ o. unwrap_or o 0) (sym (option_map_id most) ∙ e) ∙ reduce-max (take k xs) ∙ ap greatest (take-places xs k h)
 
 map_range : (f g : ℕ → ℕ) (i n : ℕ) → ((x : ℕ) → i ≤ x → x < i + n → f x ≡ g x) → map f (range i n) ≡ map g (range i n)
 map_range f g i zero h = refl
@@ -106,9 +125,6 @@ module _ (rows : List (List ℕ)) (owners : List ℕ) where
       ∙ sum-append (map (degree rows) (filter own (range 0 v))) (map (degree rows) (filter own (v ∷ [])))
       ∙ ap (λ (x : ℕ). entries_to v r + x) last
 
-  pub entries_none : table (entries_to 0) 256 ≡ replicate 256 0
-  entries_none = table-zero (entries_to 0) 256 (λ r h. refl)
-
   pub entries-more
       : (v : ℕ) → set (table (entries_to v) 256) (at owners v) (at (table (entries_to v) 256) (at owners v) + degree rows v) ≡ table (entries_to (v + 1)) 256
   entries-more v = table-add (entries_to v) (entries_to (v + 1)) 256 (at owners v) (degree rows v) (λ r h. entries-one v r)
@@ -133,9 +149,6 @@ module _ (offsets neighbors owners : List ℕ) (g : OwnedLists offsets neighbors
   -- the entries of the first v rows are counted
   abbrev pub Tallied : List ℕ → ℕ → Type 0
   Tallied counts v = counts ≡ table (entries_to (rows_of offsets neighbors) owners v) 256
-
-  pub tallied-none : Tallied (replicate 256 0) 0
-  tallied-none = sym (entries_none rows owners)
 
   -- one row more, of the owner o
   module _ (counts : List ℕ) (v : ℕ) (t : Tallied counts v) (h : v < length owners) (us : List ℕ) (q : us ≡ neighbors_of offsets neighbors v) (o : ℕ) (own : o ≡ at owners v) where
@@ -179,16 +192,23 @@ module _ (offsets neighbors : List ℕ) (k : ℕ) (owners : List ℕ) (p : Passe
 -- ---- the answer
 
 module _ (offsets neighbors : List ℕ) (k : ℕ) (owners : List ℕ) where
-  pub told-refused : (number : ℕ) → number ≡ telemetry_cause offsets neighbors k owners → number ≢ 0 → TelemetryTold offsets neighbors k owners (Refused number)
+  pub told-refused
+      : (r : Result PartitionTelemetry Refusal) (refusal : Refusal)
+      → IsErrAnd r (λ y. y ≡ refusal)
+      → refusal_number refusal ≡ telemetry_cause offsets neighbors k owners
+      → TelemetryTold offsets neighbors k owners r
   unfolding telemetry_for
-  told-refused number e h =
-      record { answer = rw (← e, ne_eqb number 0 h); number = e; even = λ z. absurd (h z) }
+  told-refused (Ok x) refusal is e = absurd is
+  told-refused (Err y) refusal is e =
+      let number : refusal_number y ≡ telemetry_cause offsets neighbors k owners = ap refusal_number is ∙ e in
+      let none = ne_eqb (telemetry_cause offsets neighbors k owners) 0 (λ z. refusal-some refusal (e ∙ z)) in
+      record { answer = rw none; number = number; even = λ z. absurd (refusal-some y z) }
 
   pub told-measured
       : telemetry_cause offsets neighbors k owners ≡ 0
       → (t : PartitionTelemetry)
       → t ≡ telemetry_of offsets neighbors k owners
-      → TelemetryTold offsets neighbors k owners (Measured t)
+      → TelemetryTold offsets neighbors k owners (Ok t)
   unfolding telemetry_for telemetry_of
   told-measured z t e =
       record {

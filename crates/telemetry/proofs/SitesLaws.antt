@@ -1,25 +1,27 @@
 -- Several sites: where each lies, its tests, what it counts, and the sums over the first i. Assumes nothing.
-use Rattle.std.proofs.Common.{◌≡◌, ℕ, zero, suc, ◌+◌, ◌-◌, ◌*◌, ◌/◌, ◌%◌, ◌<◌, ◌≤◌, Bool, true, false, cond, not, ◌||◌, eqb, ltb, ◌≢◌, List, [], ◌∷◌, ◌++◌, map, length, sym, refl, ap, ◌∙◌, mul-le-mul, add-one, arith, ltb-false, le-ltb, lt-ltb, eq-eqb, ne_eqb, eqb-true}
+use Rattle.std.proofs.Common.{◌≡◌, ℕ, zero, suc, ◌+◌, ◌-◌, ◌*◌, ◌/◌, ◌%◌, ◌<◌, ◌≤◌, Bool, true, false, cond, not, ◌||◌, eqb, ltb, ◌≢◌, List, [], ◌∷◌, ◌++◌, map, length, sym, refl, ap, ◌∙◌, mul-le-mul, add-one, arith, ltb-false, lt-ltb, eq-eqb, ne_eqb, eqb-true}
 use mathlib.Core.List.{map-append}
 use mathlib.Core.Option.{some}
 use borrow.Author.Tests.{eqb-false}
 use Rattle.links.specs.Lists.{at, range, sum, greatest, best}
-use Rattle.links.specs.Parts.{part}
 use Rattle.links.specs.Loads.{saturating}
 use Rattle.links.specs.Graph.{vertex_count, rows_of, owned, links_cut, cut_entries, OwnedLists}
-use Rattle.links.proofs.ListLaws.{split, or_l, or_r, or-true, sum-append, all_in, elem-range, greatest-bounds, greatest-least, count-length}
+use Rattle.links.proofs.ListLaws.{split, or_l, or_r, sum-append, all_in, elem-range, greatest-bounds, greatest-least, count-length}
 use Rattle.links.proofs.CutLaws.{cut_twice, cut-few, cut_fits}
 use Rattle.links.proofs.OwnerLaws.{Assigned}
 use Rattle.links.proofs.PartLaws.{length_part}
 use Rattle.links.proofs.RangeLaws.{range_snoc}
 use Rattle.telemetry.specs.Telemetry.{most_owned, telemetry_cause}
 use Rattle.telemetry.specs.Sites.{Sites, site_count, bad_sizes, stated_vertices, stated_entries, stated_ranks, stated_owners, offsets_to, neighbors_to, owners_to, site_offsets, site_neighbors, site_owners, ends_early, cause_at, first_cause, sites_cause, cut_at, share_at, higher_share, named_site, totals_of, balance_of, Largest, SitesTold}
-use Rattle.telemetry.specs.SitesCode.{place_of, counts_of, counts_at, with_site, sum_to, SmallSum, SmallCounts, AllPass}
-use Rattle.telemetry.specs.declared.sites.Place.{Place}
+use Rattle.telemetry.specs.SitesCode.{counts_of, counts_at, with_site, sum_to, SmallSum, SmallCounts, AllPass}
 use Rattle.telemetry.specs.declared.sites.Sum.{Sum}
 use Rattle.telemetry.specs.declared.sites.SiteCounts.{SiteCounts}
 use Rattle.telemetry.specs.declared.sites.Totals.{Totals}
-use Rattle.telemetry.specs.declared.sites.SitesBalance.TheVariants.{Added, Refused}
+use Rattle.std.specs.Prelude.{Result, Ok, Err}
+use Rattle.std.specs.Result.{IsErrAnd}
+use Rattle.links.specs.Refusals.{refusal_number}
+use Rattle.links.specs.declared.refusal.Refusal.{Refusal}
+use Rattle.links.proofs.RefusalLaws.{refusal-some}
 use Rattle.telemetry.proofs.SiteLaws.{Passed, passed, passed-lists, passed-owners}
 use Rattle.telemetry.proofs.ShareLaws.{best-more, Top, top-first, top-more}
 
@@ -32,18 +34,6 @@ sum_more f i =
     ∙ omega arith
 
 -- ---- 22
-
-pub sizes-odd : (sizes : List ℕ) → length sizes % 4 ≢ 0 → true ≡ bad_sizes sizes
-unfolding bad_sizes
-sizes-odd sizes h = simp (ne_eqb (length sizes % 4) 0 h)
-
-pub sizes-none : (sizes : List ℕ) → length sizes / 4 ≡ 0 → true ≡ bad_sizes sizes
-unfolding bad_sizes
-sizes-none sizes h = simp (eq-eqb (length sizes / 4) 0 h, or-true)
-
-pub sizes-few : (sizes : List ℕ) → length sizes % 4 ≡ 0 → length sizes / 4 ≢ 0 → ltb 16 (length sizes / 4) ≡ bad_sizes sizes
-unfolding bad_sizes
-sizes-few sizes h k = simp (eq-eqb (length sizes % 4) 0 h, ne_eqb (length sizes / 4) 0 k)
 
 pub sizes-passed : (sizes : List ℕ) → bad_sizes sizes ≡ false → (1 ≤ length sizes / 4) × (length sizes / 4 ≤ 16)
 unfolding bad_sizes
@@ -69,41 +59,15 @@ module _ (sizes : List ℕ) (i : ℕ) where
   unfolding owners_to
   owners-more = sum_more (stated_owners sizes) i
 
--- site i between two places
-module _ (s : Sites) (i : ℕ) (a e : Place) (p : a ≡ place_of s.sizes i) (q : e ≡ place_of s.sizes (i + 1)) where
-  pub end-offsets : e.offsets ≡ offsets_to s.sizes (i + 1)
-  unfolding place_of
-  end-offsets = ap (λ (x : Place). x.offsets) q
+-- and ends no earlier
+pub offsets_rise : (sizes : List ℕ) (i : ℕ) → offsets_to sizes i ≤ offsets_to sizes (i + 1)
+offsets_rise sizes i = omega (arith, offsets-more sizes i)
 
-  pub end-neighbors : e.neighbors ≡ neighbors_to s.sizes (i + 1)
-  unfolding place_of
-  end-neighbors = ap (λ (x : Place). x.neighbors) q
+pub neighbors_rise : (sizes : List ℕ) (i : ℕ) → neighbors_to sizes i ≤ neighbors_to sizes (i + 1)
+neighbors_rise sizes i = omega (arith, neighbors-more sizes i)
 
-  pub end-owners : e.owners ≡ owners_to s.sizes (i + 1)
-  unfolding place_of
-  end-owners = ap (λ (x : Place). x.owners) q
-
-  pub places-rise : (a.offsets ≤ e.offsets) × (a.neighbors ≤ e.neighbors) × (a.owners ≤ e.owners)
-  unfolding place_of
-  places-rise =
-      rw (p, q)
-      (omega (arith, offsets-more s.sizes i), omega (arith, neighbors-more s.sizes i), omega (arith, owners-more s.sizes i))
-
-  -- what refuses the parts between them, and what they count
-  module _ (offsets neighbors owners : List ℕ)
-      (o : offsets ≡ part s.offsets a.offsets e.offsets)
-      (l : neighbors ≡ part s.neighbors a.neighbors e.neighbors)
-      (w : owners ≡ part s.owners a.owners e.owners)
-    where
-      pub parts-cause
-          : telemetry_cause offsets neighbors (stated_ranks s.sizes i) owners
-          ≡ telemetry_cause (site_offsets s i) (site_neighbors s i) (stated_ranks s.sizes i) (site_owners s i)
-      unfolding place_of
-      parts-cause = rw (o, l, w, p, q)
-
-      pub parts-count : counts_of offsets neighbors (stated_ranks s.sizes i) owners ≡ counts_at s i
-      unfolding place_of counts_at
-      parts-count = rw (o, l, w, p, q)
+pub owners_rise : (sizes : List ℕ) (i : ℕ) → owners_to sizes i ≤ owners_to sizes (i + 1)
+owners_rise sizes i = omega (arith, owners-more sizes i)
 
 -- ---- the tests of site i
 
@@ -114,49 +78,29 @@ pub record Fits (s : Sites) (i : ℕ) : Type 0 where
   pub owners : owners_to s.sizes (i + 1) ≤ length s.owners
 
 module _ (s : Sites) (i : ℕ) where
-  pub early-offsets : length s.offsets < offsets_to s.sizes (i + 1) → 5 ≡ cause_at s i
-  unfolding cause_at ends_early
-  early-offsets h = simp (lt-ltb (length s.offsets) (offsets_to s.sizes (i + 1)) h)
-
-  pub early-neighbors : length s.neighbors < neighbors_to s.sizes (i + 1) → 5 ≡ cause_at s i
-  unfolding cause_at ends_early
-  early-neighbors h = simp (lt-ltb (length s.neighbors) (neighbors_to s.sizes (i + 1)) h, or-true)
-
-  pub early-owners : length s.owners < owners_to s.sizes (i + 1) → 5 ≡ cause_at s i
-  unfolding cause_at ends_early
-  early-owners h = simp (lt-ltb (length s.owners) (owners_to s.sizes (i + 1)) h, or-true)
-
-  abbrev tests : ℕ
-  tests = telemetry_cause (site_offsets s i) (site_neighbors s i) (stated_ranks s.sizes i) (site_owners s i)
-
-  pub cause-tests : Fits s i → telemetry_cause (site_offsets s i) (site_neighbors s i) (stated_ranks s.sizes i) (site_owners s i) ≡ cause_at s i
-  unfolding cause_at ends_early
-  cause-tests f =
-      rw (
-        le-ltb (length s.offsets) (offsets_to s.sizes (i + 1)) f.offsets,
-        le-ltb (length s.neighbors) (neighbors_to s.sizes (i + 1)) f.neighbors,
-        le-ltb (length s.owners) (owners_to s.sizes (i + 1)) f.owners,
-      )
-
   -- what a site is that passes
   module _ (z : cause_at s i ≡ 0) where
+    pub in-time : ends_early s i ≡ false
+    unfolding cause_at
+    in-time = split (ends_early s i)
+        (λ p. let x : ◌≡◌ {A = ℕ} 5 0 = rw p at z in absurd (omega arith))
+        (λ p. p)
+
+    pub site-tested : telemetry_cause (site_offsets s i) (site_neighbors s i) (stated_ranks s.sizes i) (site_owners s i) ≡ 0
+    unfolding cause_at
+    site-tested = rw in-time at z
+
     pub site-fits : Fits s i
-    unfolding cause_at ends_early
+    unfolding ends_early
     site-fits =
         let a = ltb (length s.offsets) (offsets_to s.sizes (i + 1)) in
         let b = ltb (length s.neighbors) (neighbors_to s.sizes (i + 1)) in
         let d = ltb (length s.owners) (owners_to s.sizes (i + 1)) in
-        split (a || b || d)
-        (λ p. let x : ◌≡◌ {A = ℕ} 5 0 = rw p at z in absurd (omega arith))
-        (λ p.
         record {
-          offsets = ltb-false (length s.offsets) (offsets_to s.sizes (i + 1)) (or_l a b (or_l (a || b) d p));
-          neighbors = ltb-false (length s.neighbors) (neighbors_to s.sizes (i + 1)) (or_r a b (or_l (a || b) d p));
-          owners = ltb-false (length s.owners) (owners_to s.sizes (i + 1)) (or_r (a || b) d p);
-        })
-
-    pub site-tested : telemetry_cause (site_offsets s i) (site_neighbors s i) (stated_ranks s.sizes i) (site_owners s i) ≡ 0
-    site-tested = cause-tests site-fits ∙ z
+          offsets = ltb-false (length s.offsets) (offsets_to s.sizes (i + 1)) (or_l a b (or_l (a || b) d in-time));
+          neighbors = ltb-false (length s.neighbors) (neighbors_to s.sizes (i + 1)) (or_r a b (or_l (a || b) d in-time));
+          owners = ltb-false (length s.owners) (owners_to s.sizes (i + 1)) (or_r (a || b) d in-time);
+        }
 
     site-passed : Passed (site_offsets s i) (site_neighbors s i) (stated_ranks s.sizes i) (site_owners s i)
     site-passed = passed (site_offsets s i) (site_neighbors s i) (stated_ranks s.sizes i) (site_owners s i) site-tested
@@ -182,9 +126,6 @@ module _ (f : ℕ → ℕ) (i n : ℕ) (h : i < n) where
 
 pub first_done : (f : ℕ → ℕ) (i n : ℕ) → n ≤ i → 0 ≡ first_cause (map f (range i (n - i)))
 first_done f i n h = let e : n - i ≡ 0 = omega arith in rw e
-
-pub first-start : (f : ℕ → ℕ) (n : ℕ) → first_cause (map f (range 0 (n - 0))) ≡ first_cause (map f (range 0 n))
-first-start f n = let e : n - 0 ≡ n = omega arith in rw e
 
 first-none : (f : ℕ → ℕ) (a n : ℕ) → first_cause (map f (range a n)) ≡ 0 → (i : ℕ) → a ≤ i → i < a + n → f i ≡ 0
 first-none f a zero z i h k = absurd (omega arith)
@@ -398,11 +339,15 @@ module _ (s : Sites) (a : AllPass s) where
 -- ---- the answer
 
 module _ (s : Sites) where
-  pub told-refused : (number : ℕ) → number ≡ sites_cause s → number ≢ 0 → SitesTold s (Refused number)
+  pub told-refused : (r : Result Totals Refusal) (refusal : Refusal) → IsErrAnd r (λ y. y ≡ refusal) → refusal_number refusal ≡ sites_cause s → SitesTold s r
   unfolding balance_of
-  told-refused number e h = record { answer = rw (← e, ne_eqb number 0 h); number = e; named = λ z. absurd (h z) }
+  told-refused (Ok x) refusal is e = absurd is
+  told-refused (Err y) refusal is e =
+      let number : refusal_number y ≡ sites_cause s = ap refusal_number is ∙ e in
+      let none = ne_eqb (sites_cause s) 0 (λ z. refusal-some refusal (e ∙ z)) in
+      record { answer = rw none; number = number; named = λ z. absurd (refusal-some y z) }
 
-  pub told-added : sites_cause s ≡ 0 → (t : Totals) → t ≡ totals_of s → SitesTold s (Added t)
+  pub told-added : sites_cause s ≡ 0 → (t : Totals) → t ≡ totals_of s → SitesTold s (Ok t)
   unfolding balance_of
   told-added z t e =
       record { answer = rw (z, e); number = sym z; named = λ q. named-largest s (all_pass s z) }

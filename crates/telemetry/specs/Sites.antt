@@ -1,12 +1,13 @@
 -- Request P13, several sites: their sums, and the one with the largest share. Assumes nothing.
-use Rattle.std.specs.Prelude.{◌≡◌, ℕ, ◌+◌, ◌*◌, ◌/◌, ◌%◌, ◌<◌, ◌≤◌, Bool, cond, not, ◌||◌, List, [], ◌∷◌, map, length, ◌==◌, nat_lt}
+use Rattle.std.specs.Prelude.{◌≡◌, ℕ, ◌+◌, ◌*◌, ◌/◌, ◌%◌, ◌<◌, ◌≤◌, Bool, cond, not, ◌||◌, List, [], ◌∷◌, map, length, ◌==◌, nat_lt, Option, Some, None, Result}
+use Rattle.std.specs.Result.{result_ok}
 use Rattle.links.specs.Lists.{at, range, sum, best, option}
 use Rattle.links.specs.Parts.{part}
 use Rattle.links.specs.Graph.{rows_of, links_cut}
+use Rattle.links.specs.Refusals.{number_of}
+use Rattle.links.specs.declared.refusal.Refusal.{Refusal}
 use Rattle.telemetry.specs.Telemetry.{most_owned, telemetry_cause}
 use Rattle.telemetry.specs.declared.sites.Totals.{Totals}
-use Rattle.telemetry.specs.declared.sites.SitesBalance.{SitesBalance}
-use Rattle.telemetry.specs.declared.sites.SitesBalance.TheVariants as balance
 
 -- "sites lie one after another in lent offsets, neighbours and owners; a slice of sizes holds n, m, k and the owner list's length for each"
 pub record Sites : Type 0 where
@@ -117,17 +118,13 @@ totals_of s =
 -- ---- the answer: its number and its four numbers; "a refusal added later returns zeros with its number and leaves everything lent as it was": the
 -- slices are only read
 
-abbrev pub balance_number : SitesBalance → ℕ
-balance_number (balance.Added t) = 0
-balance_number (balance.Refused number) = number
+abbrev pub balance_totals : Option Totals → List ℕ
+balance_totals (Some t) = t.vertices ∷ t.ranks ∷ t.cut_links ∷ t.site ∷ []
+balance_totals None = 0 ∷ 0 ∷ 0 ∷ 0 ∷ []
 
-abbrev pub balance_totals : SitesBalance → List ℕ
-balance_totals (balance.Added t) = t.vertices ∷ t.ranks ∷ t.cut_links ∷ t.site ∷ []
-balance_totals (balance.Refused number) = 0 ∷ 0 ∷ 0 ∷ 0 ∷ []
-
--- the case and its values
-unfoldable pub balance_of : Sites → SitesBalance
-balance_of s = cond (sites_cause s == 0) (balance.Added (totals_of s)) (balance.Refused (sites_cause s))
+-- the sums, and none of a refusal
+unfoldable pub balance_of : Sites → Option Totals
+balance_of s = cond (sites_cause s == 0) (Some (totals_of s)) None
 
 -- site w has the largest share, and each before it a smaller one: the fractions share / n, as whole products
 pub record Largest (s : Sites) (w : ℕ) : Type 0 where
@@ -135,8 +132,8 @@ pub record Largest (s : Sites) (w : ℕ) : Type 0 where
   pub largest : (j : ℕ) → j < site_count s → share_at s j * stated_vertices s.sizes w ≤ share_at s w * stated_vertices s.sizes j
   pub earlier : (j : ℕ) → j < w → share_at s j * stated_vertices s.sizes w < share_at s w * stated_vertices s.sizes j
 
--- the promise: the answer is the defined one, and so is its number; and what it means that a site is named
-pub record SitesTold (s : Sites) (r : SitesBalance) : Type 0 where
-  pub answer : r ≡ balance_of s
-  pub number : balance_number r ≡ sites_cause s
-  pub named : balance_number r ≡ 0 → Largest s (named_site s)
+-- the promise: the case and its sums are the defined ones, and so is the number; and what it means that a site is named
+pub record SitesTold (s : Sites) (r : Result Totals Refusal) : Type 0 where
+  pub answer : result_ok r ≡ balance_of s
+  pub number : number_of r ≡ sites_cause s
+  pub named : number_of r ≡ 0 → Largest s (named_site s)

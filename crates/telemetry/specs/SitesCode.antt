@@ -2,10 +2,15 @@
 use Rattle.std.specs.Prelude.{◌≡◌, ℕ, zero, suc, ◌+◌, ◌*◌, ◌/◌, ◌<◌, ◌≤◌, cond, List, length, nat_lt}
 use Rattle.links.specs.Graph.{vertex_count, rows_of, links_cut}
 use Rattle.telemetry.specs.Telemetry.{most_owned}
-use Rattle.telemetry.specs.Sites.{Sites, site_count, stated_ranks, offsets_to, neighbors_to, owners_to, site_offsets, site_neighbors, site_owners, cause_at}
+use Rattle.telemetry.specs.Sites.{Sites, sites_from, site_count, stated_ranks, offsets_to, neighbors_to, owners_to, site_offsets, site_neighbors, site_owners, cause_at}
+use Rattle.telemetry.specs.declared.sites.LentSites.{LentSites}
 use Rattle.telemetry.specs.declared.sites.Place.{Place}
 use Rattle.telemetry.specs.declared.sites.SiteCounts.{SiteCounts}
 use Rattle.telemetry.specs.declared.sites.Sum.{Sum}
+
+-- what the lent slices hold
+abbrev pub lent : LentSites → Sites
+lent l = sites_from l.sizes.now l.offsets.now l.neighbors.now l.owners.now
 
 -- where site i begins in each slice
 unfoldable pub place_of : List ℕ → ℕ → Place

@@ -1,13 +1,14 @@
 -- Request P13, one site: the two ratios of `partition_telemetry_assignment`. 02's crew is a rank here, its turbine a vertex. Assumes nothing.
-use Rattle.std.specs.Prelude.{◌≡◌, ℕ, ◌<◌, cond, List, [], ◌∷◌, map, length, pos, ◌==◌, nat_eq, Float}
+use Rattle.std.specs.Prelude.{◌≡◌, ℕ, ◌<◌, cond, List, [], ◌∷◌, map, length, pos, ◌==◌, nat_eq, Float, Option, Some, None, Result}
+use Rattle.std.specs.Result.{result_ok}
 use Rattle.std.specs.Float.Ieee as Ieee
 use Rattle.std.specs.Float.{binary64}
 use Rattle.links.specs.Lists.{at, filter, range, sum, greatest}
 use Rattle.links.specs.Graph.{vertices, degree, vertex_count, rows_of, site_cause, owned}
 use Rattle.links.specs.Owners.{from_owners}
+use Rattle.links.specs.Refusals.{number_of}
+use Rattle.links.specs.declared.refusal.Refusal.{Refusal}
 use Rattle.telemetry.specs.declared.site.PartitionTelemetry.{PartitionTelemetry}
-use Rattle.telemetry.specs.declared.site.Telemetry.{Telemetry}
-use Rattle.telemetry.specs.declared.site.Telemetry.TheVariants as telemetry
 
 -- ---- a ratio
 
@@ -53,23 +54,18 @@ telemetry_of offsets neighbors k owners =
 -- ---- the answer: its number and its two ratios; "a refusal added later returns zeros with its number and leaves everything lent as it was": the lists
 -- are only read
 
-abbrev pub telemetry_number : Telemetry → ℕ
-telemetry_number (telemetry.Measured t) = 0
-telemetry_number (telemetry.Refused number) = number
+abbrev pub ratios_of : Option PartitionTelemetry → List Float
+ratios_of (Some t) = t.owned_dof_imbalance ∷ t.local_nnz_imbalance ∷ []
+ratios_of None = Ieee.of_bits binary64 0 ∷ Ieee.of_bits binary64 0 ∷ []
 
-abbrev pub ratios_of : Telemetry → List Float
-ratios_of (telemetry.Measured t) = t.owned_dof_imbalance ∷ t.local_nnz_imbalance ∷ []
-ratios_of (telemetry.Refused number) = Ieee.of_bits binary64 0 ∷ Ieee.of_bits binary64 0 ∷ []
-
--- the case and its values
-unfoldable pub telemetry_for : List ℕ → List ℕ → ℕ → List ℕ → Telemetry
+-- the ratios, and none of a refusal
+unfoldable pub telemetry_for : List ℕ → List ℕ → ℕ → List ℕ → Option PartitionTelemetry
 telemetry_for offsets neighbors k owners =
-    cond (telemetry_cause offsets neighbors k owners == 0) (telemetry.Measured (telemetry_of offsets neighbors k owners))
-    (telemetry.Refused (telemetry_cause offsets neighbors k owners))
+    cond (telemetry_cause offsets neighbors k owners == 0) (Some (telemetry_of offsets neighbors k owners)) None
 
--- the promise: the answer is the defined one, and so is its number; and what that comes to where all ranks own the same
-pub record TelemetryTold (offsets neighbors : List ℕ) (k : ℕ) (owners : List ℕ) (r : Telemetry) : Type 0 where
-  pub answer : r ≡ telemetry_for offsets neighbors k owners
-  pub number : telemetry_number r ≡ telemetry_cause offsets neighbors k owners
+-- the promise: the case and its ratios are the defined ones, and so is the number; and what that comes to where all ranks own the same
+pub record TelemetryTold (offsets neighbors : List ℕ) (k : ℕ) (owners : List ℕ) (r : Result PartitionTelemetry Refusal) : Type 0 where
+  pub answer : result_ok r ≡ telemetry_for offsets neighbors k owners
+  pub number : number_of r ≡ telemetry_cause offsets neighbors k owners
   -- "the owned ratio is exactly 1.0 where all crews own the same count"
-  pub even : telemetry_number r ≡ 0 → (c : ℕ) → ((q : ℕ) → q < k → owned owners q ≡ c) → (telemetry_of offsets neighbors k owners).owned_dof_imbalance ≡ float 1
+  pub even : number_of r ≡ 0 → (c : ℕ) → ((q : ℕ) → q < k → owned owners q ≡ c) → (telemetry_of offsets neighbors k owners).owned_dof_imbalance ≡ float 1

@@ -5,5 +5,5 @@ mod ratio;
 mod site;
 mod sites;
 
-pub use site::{PartitionTelemetry, Telemetry, partition_telemetry_assignment};
-pub use sites::{SitesBalance, Totals, sites_balance};
+pub use site::{PartitionTelemetry, partition_telemetry_assignment};
+pub use sites::{Totals, sites_balance};

@@ -1,12 +1,13 @@
 // One site: its tests, its counts and its two ratios.
-ghost use Rattle.std.specs.Prelude.{◌≡◌, ◌<◌, ◌≤◌, max, map};
+ghost use Rattle.std.specs.Prelude.{◌≡◌, ◌<◌, ◌≤◌, map};
 ghost use Rattle.links.specs.Lists.{at, All, range, greatest};
 ghost use Rattle.links.specs.Parts.{table};
 ghost use Rattle.links.specs.Graph.{rows_of, OwnedLists};
-ghost use Rattle.telemetry.specs.Telemetry.{local_entries, most_owned, most_entries, telemetry_cause, telemetry_number, TelemetryTold};
+ghost use Rattle.links.specs.Refusals.{number_of};
+ghost use Rattle.telemetry.specs.Telemetry.{local_entries, most_owned, most_entries, telemetry_cause, TelemetryTold};
 
 use crate::ratio::imbalance;
-use links::{Assignment, from_owners, index, neighbors_of, owned_counts, site_cause, vertex_count};
+use links::{Refusal, from_owners, neighbors_of, owned_counts, site_cause, vertex_count};
 
 // The two ratios of the Rust's struct of this name that management reads.
 #[derive(Clone, Copy)]
@@ -15,49 +16,21 @@ pub struct PartitionTelemetry {
     pub local_nnz_imbalance: f64,
 }
 
-// The ratios, or a refusal.
-#[derive(Clone, Copy)]
-pub enum Telemetry {
-    Measured(PartitionTelemetry),
-    Refused(u32),
-}
-
-impl Telemetry {
-    // The refusal's number, 0 for none.
-    // Rules out: 0 for a refusal; 1 for ratios.
-    pub fn number(self) -> u32
-        ensures { result ≡ telemetry_number self }
-    {
-        match self {
-            Telemetry::Measured(_) => 0,
-            Telemetry::Refused(number) => number,
-        }
-    }
-}
-
-// 0, or the first of 3, 4, 2, 3, 12, 9, 18.
-pub(crate) fn telemetry_cause(offsets: &[u32], neighbors: &[u32], ranks: u32, owners: &[u32]) -> u32
-    ensures { result ≡ telemetry_cause offsets.now neighbors.now ranks owners.now }
+// The first of 3, 4, 2, 3, 12, 9, 18.
+pub(crate) fn telemetry_cause(
+    offsets: &[u32],
+    neighbors: &[u32],
+    ranks: u32,
+    owners: &[u32],
+) -> Result<(), Refusal>
+    ensures { number_of result ≡ telemetry_cause offsets.now neighbors.now ranks owners.now }
 {
-    let cause = site_cause(offsets, neighbors);
-    if cause != 0 {
-        return cause;
-    }
-    let assignment = from_owners(ranks, owners);
-    let Assignment::Valid = assignment else {
-        return assignment.number();
-    };
+    site_cause(offsets, neighbors)?;
+    from_owners(ranks, owners)?;
     if owners.len() != vertex_count(offsets) {
-        return 18;
+        return Err(Refusal::OwnersNotOnePerVertex);
     }
-    0
-}
-
-// The larger of two numbers.
-fn larger(a: u64, b: u64) -> u64
-    ensures { result ≡ max a b }
-{
-    if a < b { b } else { a }
+    Ok(())
 }
 
 // The greatest of the first ranks' counts.
@@ -65,13 +38,7 @@ fn most_of(counts: &[u64; 256], ranks: usize) -> u64
     requires { ranks ≤ 256 }
     ensures { result ≡ greatest (map (at counts.now) (range 0 ranks)) }
 {
-    let mut most: u64 = 0;
-    let mut rank = 0;
-    while rank < ranks {
-        most = larger(most, counts[rank]);
-        rank += 1;
-    }
-    most
+    counts[..ranks].iter().copied().max().unwrap_or(0)
 }
 
 // The most vertices that a rank owns.
@@ -80,7 +47,7 @@ pub(crate) fn most_owned(ranks: u32, owners: &[u32]) -> u64
     ensures { result ≡ most_owned owners.now ranks }
 {
     let counts = owned_counts(owners);
-    most_of(&counts, index(ranks))
+    most_of(&counts, ranks as usize)
 }
 
 // How many entries the rows of each of 256 ranks have.
@@ -89,12 +56,9 @@ fn entry_counts(offsets: &[u32], neighbors: &[u32], owners: &[u32]) -> [u64; 256
     ensures { result ≡ table (local_entries (rows_of offsets.now neighbors.now) owners.now) 256 }
 {
     let mut counts = [0u64; 256];
-    let mut v = 0;
-    while v < owners.len() {
-        let owner = index(owners[v]);
+    for (v, owner) in owners.iter().enumerate() {
         let row = neighbors_of(offsets, neighbors, v as u64);
-        counts[owner] += row.len() as u64;
-        v += 1;
+        counts[*owner as usize] += row.len() as u64;
     }
     counts
 }
@@ -105,7 +69,7 @@ fn most_entries(offsets: &[u32], neighbors: &[u32], ranks: u32, owners: &[u32]) 
     ensures { result ≡ most_entries (rows_of offsets.now neighbors.now) owners.now ranks }
 {
     let counts = entry_counts(offsets, neighbors, owners);
-    most_of(&counts, index(ranks))
+    most_of(&counts, ranks as usize)
 }
 
 // The two ratios; or the first of 3, 4, 2, 3, 12, 9, 18.
@@ -115,16 +79,13 @@ pub fn partition_telemetry_assignment(
     neighbors: &[u32],
     ranks: u32,
     owners: &[u32],
-) -> Telemetry
+) -> Result<PartitionTelemetry, Refusal>
     ensures { TelemetryTold offsets.now neighbors.now ranks owners.now result }
 {
-    let cause = telemetry_cause(offsets, neighbors, ranks, owners);
-    if cause != 0 {
-        return Telemetry::Refused(cause);
-    }
+    telemetry_cause(offsets, neighbors, ranks, owners)?;
     let vertices = most_owned(ranks, owners);
     let entries = most_entries(offsets, neighbors, ranks, owners);
-    Telemetry::Measured(PartitionTelemetry {
+    Ok(PartitionTelemetry {
         owned_dof_imbalance: imbalance(vertices, owners.len() as u64, ranks),
         local_nnz_imbalance: imbalance(entries, neighbors.len() as u64, ranks),
     })

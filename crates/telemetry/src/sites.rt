@@ -1,15 +1,27 @@
 // Several sites, one after another in the lent slices: their sums, and the one with the largest share.
-ghost use Rattle.std.specs.Prelude.{◌≡◌, ◌*◌, ◌<◌, ◌≤◌, length};
-ghost use Rattle.links.specs.Parts.{part};
+ghost use Rattle.std.specs.Prelude.{◌≡◌, ◌*◌, ◌<◌, ◌≤◌, false, length};
+ghost use Rattle.links.specs.Refusals.{number_of};
 ghost use Rattle.telemetry.specs.Telemetry.{telemetry_cause};
-ghost use Rattle.telemetry.specs.Sites.{sites_from, bad_sizes, cause_at, sites_cause, totals_of, balance_number, SitesTold};
-ghost use Rattle.telemetry.specs.SitesCode.{place_of, IsSite, counts_of, counts_at, with_site, SmallSum, SmallCounts, AllPass};
+ghost use Rattle.telemetry.specs.Sites.{sites_from, bad_sizes, stated_ranks, site_offsets, site_neighbors, site_owners, ends_early, cause_at, sites_cause, totals_of, SitesTold};
+ghost use Rattle.telemetry.specs.SitesCode.{lent, place_of, IsSite, counts_of, counts_at, with_site, SmallSum, SmallCounts, AllPass};
 
 use crate::site::{most_owned, telemetry_cause};
-use links::{cut_entries, index, wide};
+use links::{Refusal, cut_entries};
+
+// The most sites.
+const MAX_SITES: usize = 16;
+
+// The lent slices: of each site its numbers of vertices, entries, ranks and owners, and all sites' offsets, neighbors and owners.
+#[derive(Clone, Copy)]
+pub struct LentSites<'a> {
+    pub sizes: &'a [u32],
+    pub offsets: &'a [u32],
+    pub neighbors: &'a [u32],
+    pub owners: &'a [u32],
+}
 
 // The sums, and the site with the largest share, from 0.
-#[derive(Clone, Copy)]
+#[derive(Clone, Copy, PartialEq, Eq, Debug)]
 pub struct Totals {
     pub vertices: u64,
     pub ranks: u64,
@@ -17,32 +29,21 @@ pub struct Totals {
     pub site: u64,
 }
 
-// The sums, or a refusal.
-#[derive(Clone, Copy)]
-pub enum SitesBalance {
-    Added(Totals),
-    Refused(u32),
-}
-
-impl SitesBalance {
-    // The refusal's number, 0 for none.
-    // Rules out: 0 for a refusal; 1 for sums.
-    pub fn number(self) -> u32
-        ensures { result ≡ balance_number self }
-    {
-        match self {
-            SitesBalance::Added(_) => 0,
-            SitesBalance::Refused(number) => number,
-        }
-    }
-}
-
 // Where a site begins in each slice.
-#[derive(Clone, Copy)]
+#[derive(Clone, Copy, Default)]
 pub struct Place {
     pub offsets: usize,
     pub neighbors: usize,
     pub owners: usize,
+}
+
+// One site's parts of the lent slices, and its number of ranks.
+#[derive(Clone, Copy)]
+pub struct Site<'a> {
+    pub offsets: &'a [u32],
+    pub neighbors: &'a [u32],
+    pub ranks: u32,
+    pub owners: &'a [u32],
 }
 
 // What a site counts: its vertices, ranks and cut links, and the most vertices that a rank owns.
@@ -66,16 +67,12 @@ pub struct Sum {
 }
 
 // Whether 22 refuses the slice of sizes.
+#[tactic(auto, unfolding(crate::specs::Sites::bad_sizes))]
 fn bad_sizes(sizes: &[u32]) -> bool
     ensures { result ≡ bad_sizes sizes.now }
 {
-    if sizes.len() % 4 != 0 {
-        return true;
-    }
-    if sizes.len() / 4 == 0 {
-        return true;
-    }
-    sizes.len() / 4 > 16
+    let count = sizes.len() / 4;
+    sizes.len() % 4 != 0 || count == 0 || count > MAX_SITES
 }
 
 // Where site i begins in each slice.
@@ -83,105 +80,92 @@ fn place_of(sizes: &[u32], i: usize) -> Place
     requires { (4 * i ≤ length sizes.now) × (i ≤ 16) }
     ensures { result ≡ place_of sizes.now i }
 {
-    let mut offsets = 0;
-    let mut neighbors = 0;
-    let mut owners = 0;
-    let mut j = 0;
-    while j < i {
-        offsets += index(sizes[4 * j]) + 1;
-        neighbors += index(sizes[4 * j + 1]);
-        owners += index(sizes[4 * j + 3]);
-        j += 1;
+    let mut place = Place::default();
+    for j in 0..i {
+        place.offsets += sizes[4 * j] as usize + 1;
+        place.neighbors += sizes[4 * j + 1] as usize;
+        place.owners += sizes[4 * j + 3] as usize;
     }
-    Place {
-        offsets: offsets,
-        neighbors: neighbors,
-        owners: owners,
+    place
+}
+
+// Whether a lent slice ends before site i does.
+#[tactic(auto, unfolding(crate::specs::Sites::ends_early, crate::specs::SitesCode::place_of))]
+fn ends_early(sites: LentSites, i: usize) -> bool
+    requires { IsSite sites.sizes.now i }
+    ensures { result ≡ ends_early (lent sites.entry) i }
+{
+    let end = place_of(sites.sizes, i + 1);
+    sites.offsets.len() < end.offsets
+        || sites.neighbors.len() < end.neighbors
+        || sites.owners.len() < end.owners
+}
+
+// Site i.
+#[tactic(auto, using(crate::proofs::SitesLaws::offsets_rise, crate::proofs::SitesLaws::neighbors_rise, crate::proofs::SitesLaws::owners_rise), unfolding(crate::specs::Sites::ends_early, crate::specs::SitesCode::place_of))]
+fn site_at<'a>(sites: LentSites<'a>, i: usize) -> Site<'a>
+    requires { IsSite sites.sizes.now i × (ends_early (lent sites) i ≡ false) }
+    ensures offsets { result.offsets.now ≡ site_offsets (lent sites.entry) i }
+    ensures neighbors { result.neighbors.now ≡ site_neighbors (lent sites.entry) i }
+    ensures ranks { result.ranks ≡ stated_ranks sites.entry.sizes.now i }
+    ensures owners { result.owners.now ≡ site_owners (lent sites.entry) i }
+{
+    let start = place_of(sites.sizes, i);
+    let end = place_of(sites.sizes, i + 1);
+    Site {
+        offsets: &sites.offsets[start.offsets..end.offsets],
+        neighbors: &sites.neighbors[start.neighbors..end.neighbors],
+        ranks: sites.sizes[4 * i + 2],
+        owners: &sites.owners[start.owners..end.owners],
     }
 }
 
-// A part of a slice.
-fn part_of<'a>(xs: &'a [u32], a: usize, e: usize) -> &'a [u32]
-    requires { (a ≤ e) × (e ≤ length xs.now) }
-    ensures { result.now ≡ part xs.now a e }
+// What refuses site i: the first of 5, 3, 4, 2, 3, 12, 9, 18.
+#[tactic(auto, unfolding(crate::specs::Sites::cause_at))]
+fn cause_at(sites: LentSites, i: usize) -> Result<(), Refusal>
+    requires { IsSite sites.sizes.now i }
+    ensures { number_of result ≡ cause_at (lent sites.entry) i }
 {
-    &xs[a..e]
+    if ends_early(sites, i) {
+        return Err(Refusal::SliceTooShort);
+    }
+    let site = site_at(sites, i);
+    telemetry_cause(site.offsets, site.neighbors, site.ranks, site.owners)
 }
 
-// What refuses site i: 0, or the first of 5, 3, 4, 2, 3, 12, 9, 18.
-fn cause_at(sizes: &[u32], offsets: &[u32], neighbors: &[u32], owners: &[u32], i: usize) -> u32
-    requires { IsSite sizes.now i }
-    ensures { result ≡ cause_at (sites_from sizes.now offsets.now neighbors.now owners.now) i }
+// 22, or the first refusal of a site.
+fn sites_cause(sites: LentSites) -> Result<(), Refusal>
+    ensures { number_of result ≡ sites_cause (lent sites.entry) }
 {
-    let a = place_of(sizes, i);
-    let e = place_of(sizes, i + 1);
-    if offsets.len() < e.offsets {
-        return 5;
+    if bad_sizes(sites.sizes) {
+        return Err(Refusal::InvalidSizes);
     }
-    if neighbors.len() < e.neighbors {
-        return 5;
+    for i in 0..sites.sizes.len() / 4 {
+        cause_at(sites, i)?;
     }
-    if owners.len() < e.owners {
-        return 5;
-    }
-    telemetry_cause(
-        part_of(offsets, a.offsets, e.offsets),
-        part_of(neighbors, a.neighbors, e.neighbors),
-        sizes[4 * i + 2],
-        part_of(owners, a.owners, e.owners),
-    )
-}
-
-// 0, or 22, or the first refusal of a site.
-fn sites_cause(sizes: &[u32], offsets: &[u32], neighbors: &[u32], owners: &[u32]) -> u32
-    ensures { result ≡ sites_cause (sites_from sizes.now offsets.now neighbors.now owners.now) }
-{
-    if bad_sizes(sizes) {
-        return 22;
-    }
-    let mut i = 0;
-    while i < sizes.len() / 4 {
-        let cause = cause_at(sizes, offsets, neighbors, owners, i);
-        if cause != 0 {
-            return cause;
-        }
-        i += 1;
-    }
-    0
+    Ok(())
 }
 
 // What a site counts that is not refused.
-fn count_site(offsets: &[u32], neighbors: &[u32], ranks: u32, owners: &[u32]) -> SiteCounts
-    requires { telemetry_cause offsets.now neighbors.now ranks owners.now ≡ 0 }
-    ensures { result ≡ counts_of offsets.now neighbors.now ranks owners.now }
+fn count_site(site: Site) -> SiteCounts
+    requires { telemetry_cause site.offsets.now site.neighbors.now site.ranks site.owners.now ≡ 0 }
+    ensures { result ≡ counts_of site.entry.offsets.now site.entry.neighbors.now site.entry.ranks site.entry.owners.now }
 {
     SiteCounts {
-        vertices: owners.len() as u64,
-        ranks: wide(ranks),
-        cut_links: cut_entries(offsets, neighbors, owners) / 2,
-        most: most_owned(ranks, owners),
+        vertices: site.owners.len() as u64,
+        ranks: u64::from(site.ranks),
+        cut_links: cut_entries(site.offsets, site.neighbors, site.owners) / 2,
+        most: most_owned(site.ranks, site.owners),
     }
 }
 
 // What site i counts.
-fn count_at(
-    sizes: &[u32],
-    offsets: &[u32],
-    neighbors: &[u32],
-    owners: &[u32],
-    i: usize,
-) -> SiteCounts
-    requires { IsSite sizes.now i × (cause_at (sites_from sizes.now offsets.now neighbors.now owners.now) i ≡ 0) }
-    ensures { result ≡ counts_at (sites_from sizes.now offsets.now neighbors.now owners.now) i }
+#[tactic(auto, unfolding(crate::specs::SitesCode::counts_at))]
+fn count_at(sites: LentSites, i: usize) -> SiteCounts
+    requires { IsSite sites.sizes.now i × (cause_at (lent sites) i ≡ 0) }
+    ensures { result ≡ counts_at (lent sites.entry) i }
 {
-    let a = place_of(sizes, i);
-    let e = place_of(sizes, i + 1);
-    count_site(
-        part_of(offsets, a.offsets, e.offsets),
-        part_of(neighbors, a.neighbors, e.neighbors),
-        sizes[4 * i + 2],
-        part_of(owners, a.owners, e.owners),
-    )
+    count_site(site_at(sites, i))
 }
 
 impl Sum {
@@ -194,20 +178,19 @@ impl Sum {
         self.ranks += c.ranks;
         self.cut_links += c.cut_links;
         let share = c.most * c.ranks;
-        if share * self.size <= self.share * c.vertices {
-            return self;
+        if self.share * c.vertices < share * self.size {
+            self.site = i as u64;
+            self.share = share;
+            self.size = c.vertices;
         }
-        self.site = i as u64;
-        self.share = share;
-        self.size = c.vertices;
         self
     }
 }
 
 // The sums of sites of which none is refused.
-fn sum_sites(sizes: &[u32], offsets: &[u32], neighbors: &[u32], owners: &[u32]) -> Totals
-    requires { AllPass (sites_from sizes.now offsets.now neighbors.now owners.now) }
-    ensures { result ≡ totals_of (sites_from sizes.now offsets.now neighbors.now owners.now) }
+fn sum_sites(sites: LentSites) -> Totals
+    requires { AllPass (lent sites) }
+    ensures { result ≡ totals_of (lent sites.entry) }
 {
     let mut sum = Sum {
         vertices: 0,
@@ -217,10 +200,8 @@ fn sum_sites(sizes: &[u32], offsets: &[u32], neighbors: &[u32], owners: &[u32]) 
         share: 0,
         size: 1,
     };
-    let mut i = 0;
-    while i < sizes.len() / 4 {
-        sum = sum.with_site(i, count_at(sizes, offsets, neighbors, owners, i));
-        i += 1;
+    for i in 0..sites.sizes.len() / 4 {
+        sum = sum.with_site(i, count_at(sites, i));
     }
     Totals {
         vertices: sum.vertices,
@@ -237,12 +218,15 @@ pub fn sites_balance(
     offsets: &[u32],
     neighbors: &[u32],
     owners: &[u32],
-) -> SitesBalance
+) -> Result<Totals, Refusal>
     ensures { SitesTold (sites_from sizes.now offsets.now neighbors.now owners.now) result }
 {
-    let cause = sites_cause(sizes, offsets, neighbors, owners);
-    if cause != 0 {
-        return SitesBalance::Refused(cause);
-    }
-    SitesBalance::Added(sum_sites(sizes, offsets, neighbors, owners))
+    let sites = LentSites {
+        sizes,
+        offsets,
+        neighbors,
+        owners,
+    };
+    sites_cause(sites)?;
+    Ok(sum_sites(sites))
 }

@@ -6,22 +6,24 @@ use mathlib.Core.List.{List, [], ◌∷◌}
 use native.Mathlib.Omega.{arith}
 use lib.ListN.{length}
 use lib.Dec.{leb, ltb, eqb}
+use borrow.Author.Rules.{rules}
 use borrow.Author.Tests.{eq-eqb, le-leb, leb-true, lt-ltb, le-ltb, ltb-true, ltb-false, eqb-true, not-false}
 use Rattle.links.specs.Lists.{at, All, filter, any, between}
 use Rattle.links.specs.Graph.{never_falling}
-use Rattle.links.proofs.ListLaws.{split, and_l, and_r, and_i, or_l, or_r, or-false, count, count-cons, count-is, count-le, all-to, to-any, none_any, between-least, greatest-bounds, greatest-is}
+use Rattle.links.proofs.ListLaws.{split, and_l, and_r, and_i, or_l, or_r, count, count-cons, count-is, count-le, all-to, to-any, none_any, between-least, greatest-bounds, greatest-is}
 use Rattle.links.proofs.RowLaws.{by_place, elem-place}
 use Rattle.links.proofs.ApartLaws.{never-falls-first, never-falls-by}
 use Rattle.visits.specs.Crane.{bad_visits, in_block, visits_from, most_visits, earliest_day, sweep_step, sweep_start, sweep_after, Carried, crane_week, CraneTold}
 use Rattle.visits.specs.CraneCode.{Counted, Underway, Swept}
 use Rattle.visits.specs.declared.crane.Sweep.{Sweep}
-use Rattle.visits.specs.declared.crane.CraneWeek.TheVariants.{Busiest, Refused}
+use Rattle.std.specs.Prelude.{Ok, Err}
+use Rattle.links.specs.declared.refusal.Refusal.TheVariants.{InvalidVisits}
 use Rattle.visits.proofs.SweepLaws.{counted-after, after_one, step_sum, step-to, at_most, earlier-less, on-visit}
 
 -- ---- cause 21
 
 -- of days that never fall the last is the latest
-pub last-late : (days : List ℕ) (m : ℕ) → never_falling days ≡ true → 1 ≤ length days → ltb m (at days (length days - 1)) ≡ any (ltb m) days
+last-late : (days : List ℕ) (m : ℕ) → never_falling days ≡ true → 1 ≤ length days → ltb m (at days (length days - 1)) ≡ any (ltb m) days
 last-late days m e h = split (ltb m last)
     (λ p. p ∙ sym (to-any (ltb m) days last (elem-place days (length days - 1) last (omega arith) refl) p))
     (λ p. p ∙ sym (none_any (ltb m) days (by_place (λ x. ltb m x ≡ false) days (λ i k.
@@ -30,19 +32,10 @@ last-late days m e h = split (ltb m last)
     last : ℕ
     last = at days (length days - 1)
 
-pub none-late : (days : List ℕ) (m : ℕ) → length days ≡ 0 → false ≡ any (ltb m) days
-none-late [] m e = refl
-none-late (x ∷ xs) m e = absurd (omega arith)
-
--- where the other tests pass, a late day decides
-pub late-decides
-    : (w : ℕ) (days : List ℕ)
-    → between 1 366 w ≡ true
-    → length days ≤ 16384
-    → never_falling days ≡ true
-    → any (ltb 3660) days ≡ bad_visits w days
-unfolding bad_visits
-late-decides w days a b d = sym (rw (a, le-ltb 16384 (length days) b, d) (or-false (any (ltb 3660) days)))
+-- of no days, day 0 is
+pub last-tells : (days : List ℕ) (m : ℕ) → never_falling days ≡ true → ltb m (at days (length days - 1)) ≡ any (ltb m) days
+last-tells [] m e = le-ltb m 0 (omega arith)
+last-tells (x ∷ xs) m e = last-late (x ∷ xs) m e (omega arith)
 
 -- what it leaves
 pub record Passed (w : ℕ) (days : List ℕ) : Type 0 where
@@ -71,9 +64,11 @@ pub record Onward (w : ℕ) (days : List ℕ) (s : Sweep) : Type 0 where
   pub inside : s.to ≤ length days
   pub reached : s ≡ sweep_after w days (s.from + s.to)
 
-pub onward-start : (w : ℕ) (days : List ℕ) → Onward w days sweep_start
+pub onward-start : (w : ℕ) (days : List ℕ) (s : Sweep) → (s.from ≡ 0) × ((s.to ≡ 0) × ((s.count ≡ 0) × ((s.best ≡ 0) × (s.day ≡ 0)))) → Onward w days s
 unfolding sweep_after
-onward-start w days = record { inside = omega arith; reached = refl }
+onward-start w days s e =
+    let start : s ≡ sweep_start = search rules in
+    rw start (record { inside = omega arith; reached = refl })
 
 module _ (w : ℕ) (days : List ℕ) (s : Sweep) (o : Onward w days s) (some : 1 ≤ w) where
   onward-counted : Counted s
@@ -90,9 +85,6 @@ module _ (w : ℕ) (days : List ℕ) (s : Sweep) (o : Onward w days s) (some : 1
 
   pub onward-less : s.to < length days → 2 * length days - ((sweep_step w days s).from + (sweep_step w days s).to) < 2 * length days - (s.from + s.to)
   onward-less more = omega (arith, step_sum w days s, onward-counted.ordered)
-
-  pub onward-end : length days ≤ s.to → Swept w days s
-  onward-end h = record { reached = o.reached; whole = omega (arith, o.inside) }
 
 -- ---- the most visits, and the earliest day
 
@@ -163,12 +155,12 @@ swept-is w (x ∷ xs) s good end =
 
 -- ---- the two answers
 
-pub told-refused : (w : ℕ) (days : List ℕ) → bad_visits w days ≡ true → CraneTold w days (Refused 21)
+pub told-refused : (w : ℕ) (days : List ℕ) → bad_visits w days ≡ true → CraneTold w days (Err InvalidVisits)
 unfolding crane_week
 told-refused w days e =
     record { answer = rw e; number = rw e; visits = rw e; day = rw e; carried = λ f. absurd (true≢false (sym e ∙ f)) }
 
-pub told-busiest : (w : ℕ) (days : List ℕ) (s : Sweep) → bad_visits w days ≡ false → Swept w days s → CraneTold w days (Busiest s.best s.day)
+pub told-busiest : (w : ℕ) (days : List ℕ) (s : Sweep) → bad_visits w days ≡ false → Swept w days s → CraneTold w days (Ok (record { visits = s.best; day = s.day }))
 unfolding crane_week
 told-busiest w days s e end =
     let good = passed w days e in

@@ -5,7 +5,7 @@ use mathlib.Core.Bool.{Bool, true, false, not, ◌||◌, cond}
 use mathlib.Core.List.{List, ◌++◌}
 use mathlib.Core.Logic.{◌⊎◌, inl, inr, ⊎_elim}
 use native.Mathlib.Omega.{arith}
-use lib.ListN.{length, take, drop, set, replicate, length-set, length-replicate, take-append-drop, get_or-append}
+use lib.ListN.{length, take, drop, set, length-set, take-append-drop, get_or-append}
 use lib.Seq.{take-length, get_or-set_same, get_or-set_other}
 use lib.Dec.{ltb, eqb}
 use borrow.Author.Tests.{eq-eqb, ne_eqb, eqb-true, eqb-false, lt-ltb, le-ltb, ltb-true, ltb-false, not-false}
@@ -18,8 +18,11 @@ use Rattle.links.proofs.CauseLaws.{cause-fails}
 use Rattle.links.proofs.RangeLaws.{none_passes}
 use Rattle.links.proofs.PartLaws.{length_part, fill, length-table, get_or-table}
 use Rattle.links.proofs.OwnerLaws.{owned-later, owned-before, assigned, owners-numbers}
-use Rattle.visits.specs.declared.season.Season.{Season}
-use Rattle.visits.specs.declared.season.Season.TheVariants.{Planned, Refused}
+use Rattle.std.specs.Prelude.{Result, Ok, Err}
+use Rattle.std.specs.Result.{IsErrAnd}
+use Rattle.links.specs.Refusals.{refusal_number}
+use Rattle.links.specs.declared.refusal.Refusal.{Refusal}
+use Rattle.links.proofs.RefusalLaws.{refusal-some}
 use Rattle.visits.specs.Season.{windows_in, is_open, open_days, good_windows, days_from, windows_of, misplaced, bad_windows, lacks_days, too_few_days, windows_cause, season_cause, visit_day, visit_days, visits_after, Tested, Lacking, SeasonTold}
 use Rattle.visits.specs.SeasonCode.{spanned, FewCounts, Laid, Good, Plannable, Started}
 use Rattle.visits.proofs.WindowLaws.{open-spanned, open_at, open-rises}
@@ -45,9 +48,6 @@ from-within : (counts : List ℕ) (r : ℕ) → days_from counts r ≤ 2 * sum c
 from-within counts r = omega (arith, sum-append (take r counts) (drop r counts), ap sum (take-append-drop r counts))
 
 -- the places are laid one after the other, and none of them wraps
-pub started_none : (counts : List ℕ) → Started counts (replicate 257 0) 0
-started_none counts = record { sized = length-replicate {A = ℕ} 257 0; entry = λ r h. let e : r ≡ 0 = omega arith in rw e refl }
-
 module _ (counts starts : List ℕ) (f : FewCounts counts) (r : ℕ) (h : r < length counts) (s : Started counts starts r) where
   pub start-low : at starts r + 2 * at counts r ≤ 16384
   start-low = omega (arith, s.entry r (omega arith), from_low counts f r (omega arith), count-few counts f r h, f.ranks)
@@ -81,12 +81,12 @@ module _ {counts days starts : List ℕ} (l : Laid counts days) (s : Started cou
       let p = part-there in
       omega (arith, length_part days (at starts r) (at starts (r + 1)) p.1 p.2, begins, ends, from_more counts r h, count-few counts l.few r h)
 
-  pub part-windows : windows_in (part days (at starts r) (at starts (r + 1))) ≡ windows_of counts days r
+  part-windows : windows_in (part days (at starts r) (at starts (r + 1))) ≡ windows_of counts days r
   unfolding windows_of
   part-windows = rw (begins, ends)
 
-  pub misplaced-is : {w : List ℕ} {b : Bool} → w ≡ part days (at starts r) (at starts (r + 1)) → b ≡ good_windows (windows_in w) → misplaced counts days r ≡ not b
-  misplaced-is {w} {b} e t = ap not (sym (t ∙ ap (λ (l : List ℕ). good_windows (windows_in l)) e ∙ ap good_windows part-windows))
+  pub misplaced-is : not (good_windows (windows_in (part days (at starts r) (at starts (r + 1))))) ≡ misplaced counts days r
+  misplaced-is = ap (λ (w : List (ℕ × ℕ)). not (good_windows w)) part-windows
 
 module _ {counts days starts : List ℕ} (g : Good counts days) (s : Started counts starts (length counts)) (r : ℕ) (h : r < length counts) where
   -- the days of the part are the rank's open days
@@ -98,14 +98,12 @@ module _ {counts days starts : List ℕ} (g : Good counts days) (s : Started cou
 
   -- fewer days than the counts of all ranks have for it
   pub lacks-is
-      : (owners : List ℕ) {w counted : List ℕ} {n : ℕ}
-      → w ≡ part days (at starts r) (at starts (r + 1))
-      → n ≡ length (spanned (windows_in w))
+      : (owners : List ℕ) {counted : List ℕ}
       → counted ≡ table (owned owners) 256
-      → lacks_days owners counts days r ≡ ltb n (at counted r)
-  lacks-is owners {w} {counted} {n} e t u =
+      → ltb (length (spanned (windows_in (part days (at starts r) (at starts (r + 1)))))) (at counted r) ≡ lacks_days owners counts days r
+  lacks-is owners {counted} u =
       let own : at counted r ≡ owned owners r = rw u (get_or-table (owned owners) 256 r (omega (arith, g.laid.few.ranks))) in
-      rw (t, part-days w e, own)
+      rw (part-days (part days (at starts r) (at starts (r + 1))) refl, own)
 
 -- ---- what the tests leave
 
@@ -251,7 +249,7 @@ module _ (k : ℕ) (owners counts days visits : List ℕ) where
         rw same (open-rises (windows_of counts days o) (owned (take u owners) o) (owned (take v owners) o) fewer (enough v h))
 
     -- a season that is planned
-    pub told-planned : (visits' : List ℕ) → visits' ≡ visit_days owners counts days ++ drop (length owners) visits → SeasonTold k owners counts days visits visits' Planned
+    pub told-planned : (visits' : List ℕ) → visits' ≡ visit_days owners counts days ++ drop (length owners) visits → SeasonTold k owners counts days visits visits' (Ok tt)
     unfolding visits_after
     told-planned visits' w =
         let day : (v : ℕ) → v < length owners → at visits' v ≡ visit_day owners counts days v = λ v h. ap (λ (l : List ℕ). at l v) w ∙ written_at owners counts days visits v h in
@@ -265,20 +263,24 @@ module _ (k : ℕ) (owners counts days visits : List ℕ) where
           only = λ z. only (e ∙ z);
         }
 
-  -- a refusal
-  pub told-refused : (number : ℕ) → number ≡ season_cause k owners counts days (length visits) → (number ≡ 0 → ⊥) → SeasonTold k owners counts days visits visits (Refused number)
+  -- a refusal that is passed on
+  pub told-refused
+      : (r : Result (Unit {0}) Refusal) (refusal : Refusal)
+      → IsErrAnd r (λ y. y ≡ refusal)
+      → refusal_number refusal ≡ season_cause k owners counts days (length visits)
+      → SeasonTold k owners counts days visits visits r
   unfolding visits_after
-  told-refused number e f =
-      let none = ne_eqb (season_cause k owners counts days (length visits)) 0 (λ z. f (e ∙ z)) in
+  told-refused (Ok x) refusal is e = absurd is
+  told-refused (Err y) refusal is e =
+      let number : refusal_number y ≡ season_cause k owners counts days (length visits) = ap refusal_number is ∙ e in
+      let some : season_cause k owners counts days (length visits) ≡ 0 → ⊥ = λ z. refusal-some refusal (e ∙ z) in
+      let none = ne_eqb (season_cause k owners counts days (length visits)) 0 some in
       record {
-        answer = rw none (ap Refused e);
-        number = e;
+        answer = sym none;
+        number = number;
         written = rw none;
-        opens = λ p v h. absurd (clash p);
-        rises = λ p u v l h same. absurd (clash p);
-        exactly = λ t l. e ∙ exactly t l;
-        only = λ z. only (sym e ∙ z);
+        opens = λ p v h. absurd (some (sym number ∙ p));
+        rises = λ p u v l h same. absurd (some (sym number ∙ p));
+        exactly = λ t l. number ∙ exactly t l;
+        only = λ z. only (sym number ∙ z);
       }
-    where
-      clash : ◌≡◌ {A = Season} (Refused number) Planned → ⊥
-      clash p = let z : ◌≡◌ {A = ℕ} 0 1 = cc in omega arith

@@ -1,10 +1,12 @@
 -- Request P12: crane weeks. The list has the day of each visit. Assumes nothing.
-use Rattle.std.specs.Prelude.{ℕ, zero, suc, ◌+◌, ◌-◌, ◌*◌, ◌≤◌, ◌≡◌, Bool, false, not, ◌&&◌, ◌||◌, cond, List, map, ◌⊎◌, length, leb, ltb, eqb}
+use Rattle.std.specs.Prelude.{ℕ, zero, suc, ◌+◌, ◌-◌, ◌*◌, ◌≤◌, ◌≡◌, Bool, false, not, ◌&&◌, ◌||◌, cond, List, map, ◌⊎◌, length, leb, ltb, eqb, Result, Ok, Err}
 use Rattle.links.specs.Lists.{at, filter, any, between, greatest}
 use Rattle.links.specs.Graph.{never_falling}
+use Rattle.links.specs.Refusals.{number_of}
+use Rattle.links.specs.declared.refusal.Refusal.{Refusal}
+use Rattle.links.specs.declared.refusal.Refusal.TheVariants.{InvalidVisits}
 use Rattle.visits.specs.declared.crane.Sweep.{Sweep}
-use Rattle.visits.specs.declared.crane.CraneWeek.{CraneWeek}
-use Rattle.visits.specs.declared.crane.CraneWeek.TheVariants as crane
+use Rattle.visits.specs.declared.crane.Busiest.{Busiest}
 
 -- 21: "w of 0 or above 366, a list too long, a day above 3,660 or a falling list"
 unfoldable pub bad_visits : ℕ → List ℕ → Bool
@@ -69,26 +71,22 @@ pub record Carried (w : ℕ) (days : List ℕ) (visits day : ℕ) : Type 0 where
 -- ---- the answer: its number, visits and day; "a refusal added later returns zeros with its number and leaves everything lent as it was": the list is
 -- only read
 
-abbrev pub crane_number : CraneWeek → ℕ
-crane_number (crane.Busiest visits day) = 0
-crane_number (crane.Refused number) = number
+abbrev pub crane_visits : Result Busiest Refusal → ℕ
+crane_visits (Ok busiest) = busiest.visits
+crane_visits (Err refusal) = 0
 
-abbrev pub crane_visits : CraneWeek → ℕ
-crane_visits (crane.Busiest visits day) = visits
-crane_visits (crane.Refused number) = 0
-
-abbrev pub crane_day : CraneWeek → ℕ
-crane_day (crane.Busiest visits day) = day
-crane_day (crane.Refused number) = 0
+abbrev pub crane_day : Result Busiest Refusal → ℕ
+crane_day (Ok busiest) = busiest.day
+crane_day (Err refusal) = 0
 
 -- the case and its values
-unfoldable pub crane_week : ℕ → List ℕ → CraneWeek
-crane_week w days = cond (bad_visits w days) (crane.Refused 21) (crane.Busiest (most_visits w days) (earliest_day w days))
+unfoldable pub crane_week : ℕ → List ℕ → Result Busiest Refusal
+crane_week w days = cond (bad_visits w days) (Err InvalidVisits) (Ok (record { visits = most_visits w days; day = earliest_day w days }))
 
 -- the promise: the answer is the defined one, and so are its number and values; of what is not refused, the count that is carried along comes to them
-pub record CraneTold (w : ℕ) (days : List ℕ) (r : CraneWeek) : Type 0 where
+pub record CraneTold (w : ℕ) (days : List ℕ) (r : Result Busiest Refusal) : Type 0 where
   pub answer : r ≡ crane_week w days
-  pub number : crane_number r ≡ cond (bad_visits w days) 21 0
+  pub number : number_of r ≡ cond (bad_visits w days) 21 0
   pub visits : crane_visits r ≡ cond (bad_visits w days) 0 (most_visits w days)
   pub day : crane_day r ≡ cond (bad_visits w days) 0 (earliest_day w days)
   pub carried : bad_visits w days ≡ false → Carried w days (crane_visits r) (crane_day r)

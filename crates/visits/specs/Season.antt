@@ -1,11 +1,12 @@
 -- Request P11: season windows, and the day of each visit. 02's crew is a rank here, its turbine a vertex. Assumes nothing.
-use Rattle.std.specs.Prelude.{ℕ, ◌+◌, ◌*◌, ◌≤◌, ◌<◌, ◌≡◌, Bool, true, false, not, ◌&&◌, ◌||◌, cond, List, [], ◌∷◌, ◌++◌, length, take, drop, leb, ltb, eqb}
+use Rattle.std.specs.Prelude.{ℕ, ◌+◌, ◌*◌, ◌≤◌, ◌<◌, ◌≡◌, Bool, true, false, not, ◌&&◌, ◌||◌, cond, List, [], ◌∷◌, ◌++◌, length, take, drop, leb, ltb, eqb, Result}
+use Rattle.std.specs.Result.{is_ok}
 use Rattle.links.specs.Lists.{at, filter, any, range, sum}
 use Rattle.links.specs.Parts.{part, table}
 use Rattle.links.specs.Graph.{owned}
 use Rattle.links.specs.Owners.{from_owners}
-use Rattle.visits.specs.declared.season.Season.{Season}
-use Rattle.visits.specs.declared.season.Season.TheVariants as season
+use Rattle.links.specs.Refusals.{number_of}
+use Rattle.links.specs.declared.refusal.Refusal.{Refusal}
 
 -- ---- a rank's windows, each a first and an end day
 
@@ -94,14 +95,6 @@ visits_after k owners counts days visits =
 
 -- ---- the answer
 
-abbrev pub season_number : Season → ℕ
-season_number season.Planned = 0
-season_number (season.Refused number) = number
-
--- the case, by its number
-abbrev pub season_of : ℕ → Season
-season_of number = cond (eqb number 0) season.Planned (season.Refused number)
-
 -- what is tested before 20 passes
 pub record Tested (k : ℕ) (owners counts days : List ℕ) (room : ℕ) : Type 0 where
   pub owners-pass : from_owners k owners ≡ 0
@@ -114,15 +107,15 @@ pub record Lacking (k : ℕ) (owners counts days : List ℕ) : Type 0 where
   pub is-rank : rank < k
   pub fewer : length (open_days (windows_of counts days rank)) < owned owners rank
 
--- the promise: the answer is the defined one, and so are its number and the lent slice afterwards; and what that comes to
-pub record SeasonTold (k : ℕ) (owners counts days visits visits' : List ℕ) (r : Season) : Type 0 where
-  pub answer : r ≡ season_of (season_cause k owners counts days (length visits))
-  pub number : season_number r ≡ season_cause k owners counts days (length visits)
+-- the promise: the case, the number and the lent slice afterwards are the defined ones; and what that comes to
+pub record SeasonTold (k : ℕ) (owners counts days visits visits' : List ℕ) (r : Result (Unit {0}) Refusal) : Type 0 where
+  pub answer : is_ok r ≡ eqb (season_cause k owners counts days (length visits)) 0
+  pub number : number_of r ≡ season_cause k owners counts days (length visits)
   pub written : visits' ≡ visits_after k owners counts days visits
   -- each day is open for its rank
-  pub opens : r ≡ season.Planned → (v : ℕ) → v < length owners → is_open (windows_of counts days (at owners v)) (at visits' v) ≡ true
+  pub opens : number_of r ≡ 0 → (v : ℕ) → v < length owners → is_open (windows_of counts days (at owners v)) (at visits' v) ≡ true
   -- a rank's days rise with its vertices: "by number, at most one on each open day"
-  pub rises : r ≡ season.Planned → (u v : ℕ) → u < v → v < length owners → at owners u ≡ at owners v → at visits' u < at visits' v
+  pub rises : number_of r ≡ 0 → (u v : ℕ) → u < v → v < length owners → at owners u ≡ at owners v → at visits' u < at visits' v
   -- "20 exactly when a crew has fewer open days than turbines"
-  pub exactly : Tested k owners counts days (length visits) → Lacking k owners counts days → season_number r ≡ 20
-  pub only : season_number r ≡ 20 → Tested k owners counts days (length visits) × Lacking k owners counts days
+  pub exactly : Tested k owners counts days (length visits) → Lacking k owners counts days → number_of r ≡ 20
+  pub only : number_of r ≡ 20 → Tested k owners counts days (length visits) × Lacking k owners counts days

@@ -5,5 +5,5 @@ mod crane;
 mod season;
 mod windows;
 
-pub use crane::{CraneWeek, crane_week};
-pub use season::{Season, season_days};
+pub use crane::{Busiest, crane_week};
+pub use season::season_days;

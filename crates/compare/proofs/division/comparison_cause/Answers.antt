@@ -1,57 +1,47 @@
 -- The site, each list's owners, then their lengths. Assumes nothing.
-use mathlib.Core.Path.{sym, ◌∙◌}
-use mathlib.Core.Logic.{inl, inr}
-use native.Mathlib.Omega.{arith}
+use Rattle.std.proofs.Common.{length, sym, ◌∙◌, arith}
+use mathlib.Core.Logic.{◌≢◌, ◌⊎◌, inl, inr}
 use Rattle.links.specs.Graph.{vertex_count}
-use Rattle.links.proofs.OwnerLaws.{assignment-valid, assignment-refused}
+use Rattle.links.proofs.RefusalLaws.{passed-on, refusal-some}
 use Rattle.compare.proofs.CauseLaws.{cause-site, cause-first, cause-second, cause-lengths, lengths_differ, lengths-agree}
 use Rattle.compare.proofs.division.comparison_cause.Goals as goal
+use Rattle.compare.proofs.division.comparison_cause.Goals.{then-first-n-via-then-first-n, then-first-n-via-else-first-n+then-second-n}
 
-pub returns-then-cause-ne0 : goal.returns-then-cause-ne0
-returns-then-cause-ne0 c =
+pub returns-in_err-site_cause : goal.returns-in_err-site_cause
+returns-in_err-site_cause c =
     let a = c.args in
-    c.site_cause-cause.ensures ∙ cause-site a.offsets.now a.neighbors.now a.ranks a.first.now a.second.now (λ z. c.if-cause-ne0.true (c.site_cause-cause.ensures ∙ z))
+    let e = c.in_err-site_cause.ensures in
+    passed-on c.from_residual.result _ c.from_residual.ensures.1 ∙ e ∙ cause-site a.offsets.now a.neighbors.now a.ranks a.first.now a.second.now (λ z. refusal-some _ (e ∙ z))
 
-pub returns-in_default : goal.returns-in_default
-returns-in_default c =
+pub returns-in_err-from_owners : goal.returns-in_err-from_owners
+returns-in_err-from_owners c =
     let a = c.args in
-    let told = c.from_owners-one.ensures in
-    let site = sym c.site_cause-cause.ensures ∙ c.if-cause-ne0.false in
-    let own = assignment-refused a.ranks a.first.now _ told _ c.in_default.is in
-    c.number.ensures ∙ told.number ∙ cause-first a.offsets.now a.neighbors.now a.ranks a.first.now a.second.now site own
+    let e = c.in_err-from_owners.ensures in
+    passed-on c.from_residual-in_err-from_owners.result _ c.from_residual-in_err-from_owners.ensures.1
+    ∙ e
+    ∙ cause-first a.offsets.now a.neighbors.now a.ranks a.first.now a.second.now (sym c.in_ok-site_cause.ensures) (λ z. refusal-some _ (e ∙ z))
 
-pub returns-in_default-other : goal.returns-in_default-other
-returns-in_default-other c =
+pub returns-in_err-from_owners-2 : goal.returns-in_err-from_owners-2
+returns-in_err-from_owners-2 c =
     let a = c.args in
-    let told = c.from_owners-other.ensures in
-    let site = sym c.site_cause-cause.ensures ∙ c.if-cause-ne0.false in
-    let one = assignment-valid a.ranks a.first.now _ c.from_owners-one.ensures c.in-Valid.is in
-    let own = assignment-refused a.ranks a.second.now _ told _ c.in_default-other.is in
-    c.number-in_default-other.ensures ∙ told.number ∙ cause-second a.offsets.now a.neighbors.now a.ranks a.first.now a.second.now site one own
+    let e = c.in_err-from_owners-2.ensures in
+    passed-on c.from_residual-in_err-from_owners-2.result _ c.from_residual-in_err-from_owners-2.ensures.1
+    ∙ e
+    ∙ cause-second a.offsets.now a.neighbors.now a.ranks a.first.now a.second.now (sym c.in_ok-site_cause.ensures) (sym c.in_ok-from_owners.ensures) (λ z. refusal-some _ (e ∙ z))
 
 pub returns-then-first-n : goal.returns-then-first-n
 returns-then-first-n c =
     let a = c.args in
-    let site = sym c.site_cause-cause.ensures ∙ c.if-cause-ne0.false in
-    let one = assignment-valid a.ranks a.first.now _ c.from_owners-one.ensures c.in-Valid.is in
-    let other = assignment-valid a.ranks a.second.now _ c.from_owners-other.ensures c.in-Valid-other.is in
-    lengths_differ (vertex_count a.offsets.now) a.first.now a.second.now (inl (λ e. omega (arith, c.if-first-n.true, c.vertex_count-n.ensures)))
-    ∙ cause-lengths a.offsets.now a.neighbors.now a.ranks a.first.now a.second.now site one other
-
-pub returns-then-second-n : goal.returns-then-second-n
-returns-then-second-n c =
-    let a = c.args in
-    let site = sym c.site_cause-cause.ensures ∙ c.if-cause-ne0.false in
-    let one = assignment-valid a.ranks a.first.now _ c.from_owners-one.ensures c.in-Valid.is in
-    let other = assignment-valid a.ranks a.second.now _ c.from_owners-other.ensures c.in-Valid-other.is in
-    lengths_differ (vertex_count a.offsets.now) a.first.now a.second.now (inr (λ e. omega (arith, c.if-second-n.true, c.vertex_count-n.ensures)))
-    ∙ cause-lengths a.offsets.now a.neighbors.now a.ranks a.first.now a.second.now site one other
+    let n = vertex_count a.offsets.now in
+    let differ : (length a.first.now ≢ n) ⊎ (length a.second.now ≢ n) = elim c.then-first-n.branch [
+      | then-first-n-via-then-first-n w ↦ inl (λ e. omega (arith, w.if-first-n.true, c.vertex_count-n.ensures))
+      | then-first-n-via-else-first-n+then-second-n w ↦ inr (λ e. omega (arith, w.if-second-n.true, c.vertex_count-n.ensures))
+    ] in
+    lengths_differ n a.first.now a.second.now differ
+    ∙ cause-lengths a.offsets.now a.neighbors.now a.ranks a.first.now a.second.now (sym c.in_ok-site_cause.ensures) (sym c.in_ok-from_owners.ensures) (sym c.in_ok-from_owners-2.ensures)
 
 pub returns : goal.returns
 returns c =
     let a = c.args in
-    let site = sym c.site_cause-cause.ensures ∙ c.if-cause-ne0.false in
-    let one = assignment-valid a.ranks a.first.now _ c.from_owners-one.ensures c.in-Valid.is in
-    let other = assignment-valid a.ranks a.second.now _ c.from_owners-other.ensures c.in-Valid-other.is in
-    lengths-agree (vertex_count a.offsets.now) a.first.now a.second.now (omega (arith, c.if-first-n.false, c.vertex_count-n.ensures)) (omega (arith, c.if-second-n.false, c.vertex_count-n.ensures))
-    ∙ cause-lengths a.offsets.now a.neighbors.now a.ranks a.first.now a.second.now site one other
+    lengths-agree (vertex_count a.offsets.now) a.first.now a.second.now (omega arith) (omega arith)
+    ∙ cause-lengths a.offsets.now a.neighbors.now a.ranks a.first.now a.second.now (sym c.in_ok-site_cause.ensures) (sym c.in_ok-from_owners.ensures) (sym c.in_ok-from_owners-2.ensures)

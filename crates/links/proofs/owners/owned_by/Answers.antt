@@ -1,35 +1,11 @@
-use mathlib.Core.Path.{sym, ◌≡◌}
-use mathlib.Core.Bool.{true, false}
-use native.Mathlib.Omega.{arith}
-use lib.ListN.{drop_of_length-le}
-use lib.Dec.{eqb}
-use borrow.Author.Tests.{eq-eqb, ne_eqb}
-use Rattle.links.specs.Lists.{at}
+use Rattle.std.proofs.Common.{◌≡◌, ◌∙◌, eqb, rules}
+use Rattle.std.specs.List.{count_by}
 use Rattle.links.specs.Graph.{owned}
-use Rattle.links.proofs.OwnerLaws.{owned-drop}
+use Rattle.links.proofs.ChainLaws.{count-chain}
 use Rattle.links.proofs.owners.owned_by.Goals as goal
-use Rattle.links.proofs.owners.owned_by.Goals.{then-owners-i, else-owners-i}
-
-pub loop-i-init : goal.loop-i-init
-loop-i-init c = omega arith
-
-pub loop-i-preserved : goal.loop-i-preserved
-loop-i-preserved c =
-    let owners = c.args.owners.now in
-    let rank = c.args.rank in
-    let i = c.loop-i.i in
-    let e = owned-drop owners i c.loop-i-test.true rank in
-    elim c.if-owners-i.branch [
-      | then-owners-i w ↦
-          let t : eqb rank (at owners i) ≡ true = eq-eqb rank (at owners i) (sym w.if-owners-i.true) in
-          omega (arith, rw t at e)
-      | else-owners-i w ↦
-          let t : eqb rank (at owners i) ≡ false = ne_eqb rank (at owners i) (λ p. w.if-owners-i.false (sym p)) in
-          omega (arith, rw t at e)
-    ]
 
 pub returns : goal.returns
 unfolding owned
 returns c =
-    let e = drop_of_length-le c.args.owners.now c.loop-i-test.false in
-    omega (arith, rw e at c.loop-i.invariant.2)
+    let e : c.count.result ≡ count_by (eqb c.args.rank) c.args.owners.now = search rules in
+    e ∙ count-chain (eqb c.args.rank) c.args.owners.now

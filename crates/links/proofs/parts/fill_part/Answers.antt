@@ -8,20 +8,17 @@ use Rattle.links.specs.Parts.{part, put_back, filled_part}
 use Rattle.links.proofs.PartLaws.{clip, clip-none}
 use Rattle.links.proofs.parts.fill_part.Goals as goal
 
-pub slice_bounds-fill-end : goal.slice_bounds-fill-end
-slice_bounds-fill-end c = omega (arith, c.least-end.ensures)
-
 pub returns-then-a-end : goal.returns-then-a-end
 unfolding filled_part
 returns-then-a-end c =
     let a = c.args in
     let w = a.work.now in
-    let e = c.least-end.result in
+    let e = c.min-end.result in
     ap (put_back w a.a e) c.fill.ensures
-    ∙ ap (λ (t : ℕ). put_back w a.a t (replicate (length (part w a.a t)) a.x)) c.least-end.ensures
+    ∙ ap (λ (t : ℕ). put_back w a.a t (replicate (length (part w a.a t)) a.x)) c.min-end.ensures
     ∙ clip w a.a a.e (λ (t : List ℕ). replicate (length t) a.x)
 
 pub returns-else-a-end : goal.returns-else-a-end
 unfolding filled_part
 returns-else-a-end c =
-    let a = c.args in clip-none a.work.now a.a a.e (λ (t : List ℕ). replicate (length t) a.x) refl (omega (arith, c.least-end.ensures))
+    let a = c.args in clip-none a.work.now a.a a.e (λ (t : List ℕ). replicate (length t) a.x) refl (omega (arith, c.min-end.ensures))

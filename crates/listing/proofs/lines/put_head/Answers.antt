@@ -11,5 +11,5 @@ returns c =
     let vertices = c.put_field-a.ensures.written in
     let ranks = c.put_field-b.ensures.written in
     let end = c.put.ensures in
-    let text = head-text c.args.n c.args.ranks c.wide.result c.wide.ensures in
+    let text = head-text c.args.n c.args.ranks c.from.result c.from.ensures in
     record { written = written_as (joined (joined vertices ranks) end) text; upper_bound = omega (arith, end.end_is) }

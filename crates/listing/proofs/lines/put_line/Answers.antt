@@ -11,4 +11,4 @@ returns c =
     let vertex = c.put_number-a.ensures.written in
     let rank = c.put_field-b.ensures.written in
     let end = c.put.ensures in
-    record { written = written_as (joined (joined vertex rank) end) (simp (c.wide.ensures, append_assoc)); upper_bound = omega (arith, end.end_is) }
+    record { written = written_as (joined (joined vertex rank) end) (simp (c.from.ensures, append_assoc)); upper_bound = omega (arith, end.end_is) }

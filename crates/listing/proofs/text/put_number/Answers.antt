@@ -4,11 +4,6 @@ use native.Mathlib.Omega.{arith}
 use Rattle.listing.proofs.TextLaws.{few-digits, digits_decimal, decimal-length, written_as}
 use Rattle.listing.proofs.text.put_number.Goals as goal
 
-pub put-requires : goal.put-requires
-put-requires c =
-    let d = c.decimal-k in
-    omega (arith, d.ensures.in_bounds, few-digits c.args.n d.result c.ranges.n.fits d.ensures.len)
-
 pub returns : goal.returns
 returns c =
     let d = c.decimal-k in

@@ -1,25 +1,18 @@
 -- Moves, which may refuse. Assumes nothing.
-use Rattle.multilevel.proofs.PlaceLaws.{refinable, level-moved, level-refused}
+use Rattle.std.proofs.Common.{sym, ap, ◌∙◌}
+use Rattle.std.specs.Prelude.{Err}
+use Rattle.std.proofs.lemmas.Result.{err_from_is_err_and}
+use Rattle.multilevel.proofs.PlaceLaws.{level-moved, level-refused}
 use Rattle.multilevel.proofs.driver.refine_level.Goals as goal
 
-pub refine_by_cut-r-requires : goal.refine_by_cut-r-requires
-refine_by_cut-r-requires c =
+pub returns-in_err-moves : goal.returns-in_err-moves
+returns-in_err-moves c =
     let a = c.args in
-    refinable a.work.now a.l a.q c.requires
-
-pub shape_of-work-in_default : goal.shape_of-work-in_default
-shape_of-work-in_default c = c.refine_by_cut-r.ensures.kept.same_length
-
-pub returns-in_default : goal.returns-in_default
-returns-in_default c =
-    let a = c.args in
-    level-refused a.work.now a.l a.q c.requires _ _ a.s _ _ c.refine_by_cut-r.ensures c.in_default.is c.number.ensures
-
-pub shape_of-work : goal.shape_of-work
-shape_of-work c = c.refine_by_cut-r.ensures.kept.same_length
+    let p = err_from_is_err_and c.from_residual.result c.from_residual.ensures.1 in
+    rw p.1 (level-refused a.work.now a.l a.q c.requires _ _ a.s p.0 c.refine_by_cut.ensures (c.in_err-moves.was ∙ ap Err (sym p.2)))
 
 pub returns : goal.returns
 returns c =
     let a = c.args in
-    level-moved a.work.now a.l a.q c.requires _ a.s c.added_moves.result c.in-Moved.moves
-    (rw c.in-Moved.is at c.refine_by_cut-r.ensures) c.added_moves.ensures
+    level-moved a.work.now a.l a.q c.requires _ a.s c.added_moves.result c.in_ok-moves.moves
+    (rw c.in_ok-moves.was at c.refine_by_cut.ensures) c.added_moves.ensures

@@ -2,11 +2,7 @@
 use native.Mathlib.Omega.{arith}
 use Rattle.links.proofs.PartLaws.{filled-kept, filled_at}
 use Rattle.multilevel.proofs.MeasureLaws.{measurable-kept, measured}
-use Rattle.stages.proofs.LevelLaws.{ready_by}
 use Rattle.multilevel.proofs.measure.measure_level.Goals as goal
-
-pub cut_in-cut-requires : goal.cut_in-cut-requires
-cut_in-cut-requires c = ready_by _ c.requires.ready c.requires.ready.inside (omega arith)
 
 pub volume_in-volume-requires : goal.volume_in-volume-requires
 volume_in-volume-requires c =

@@ -1,10 +1,7 @@
 -- The invariant: the ranks of the entries before i are marked and counted, each once. Assumes nothing.
-use Prim.Native.Nat.{◌≤◌, ◌-◌}
+use Prim.Native.Nat.{◌-◌}
 use Rattle.multilevel.proofs.MeasureLaws.{Meeting}
 use Rattle.multilevel.proofs.measure.meet_row.Given as goal
 
 abbrev pub invariant-loop-i : goal.invariant-loop-i
-invariant-loop-i l = Meeting l.initial.work l.own l.seen l.ranks l.a l.e l.home l.mark l.work l.x (l.i - l.a) × (l.a ≤ l.i)
-
-abbrev pub decreases-loop-i : goal.decreases-loop-i
-decreases-loop-i l = l.e - l.i
+invariant-loop-i l = Meeting l.initial.work l.own l.seen l.ranks l.a l.e l.home l.mark l.work l.x (l.i - l.a)

@@ -1,15 +1,11 @@
 -- The loop keeps that what it passed is closed. Assumes nothing.
-use Prim.Native.Nat.{ℕ, ◌-◌, ◌≤◌, ◌<◌}
+use Prim.Native.Nat.{ℕ, ◌≤◌, ◌<◌}
 use mathlib.Core.Path.{◌≡◌}
 use mathlib.Core.Bool.{false}
-use lib.ListN.{length}
 use Rattle.links.specs.Lists.{at}
 use Rattle.stages.specs.FrontierCode.{opens}
 use Rattle.stages.proofs.growth.first_open.Given as goal
 
 abbrev pub invariant-loop-p : goal.invariant-loop-p
 invariant-loop-p l =
-    (l.from ≤ l.p) × (l.p ≤ length l.order) × ((i : ℕ) → l.from ≤ i → i < l.p → opens l.cap l.weights l.owners l.load (at l.order i) ≡ false)
-
-abbrev pub decreases-loop-p : goal.decreases-loop-p
-decreases-loop-p l = length l.order - l.p
+    (i : ℕ) → l.from ≤ i → i < l.p → opens l.cap l.weights l.owners l.load (at l.order i) ≡ false

@@ -2,48 +2,40 @@ use Prim.Native.Nat.{◌<◌}
 use mathlib.Core.Path.{sym, ◌∙◌}
 use Rattle.links.specs.Graph.{rows_of, vertex_count}
 use Rattle.stages.specs.FrontierCode.{opens}
-use Rattle.stages.proofs.ChainLaws.{going_start, going-on, head_in, left-some}
+use Rattle.stages.proofs.ChainLaws.{going-on, head_in, left-some}
 use Rattle.stages.proofs.growth.seek.Goals as goal
-
-pub loop-c-init : goal.loop-c-init
-loop-c-init c =
-    let a = c.args in
-    going_start (rows_of a.offsets.now a.neighbors.now) a.links.now (opens a.cap a.weights.now a.owners.now a.load)
-    (vertex_count a.offsets.now) a.from.head a.from.place a.from.count c.requires.2
 
 pub stops-requires : goal.stops-requires
 stops-requires c =
     let a = c.args in
-    (c.requires.0, head_in a.links.now (vertex_count a.offsets.now) c.loop-c.head c.loop-c.count c.loop-c.invariant.inside)
+    let h = c.loop-here.here in
+    (c.requires.0, head_in a.links.now (vertex_count a.offsets.now) h.head h.count c.loop-here.invariant.inside)
 
-pub onward-c-requires : goal.onward-c-requires
-onward-c-requires c =
+pub onward-here-requires : goal.onward-here-requires
+onward-here-requires c =
     let a = c.args in
-    let l = c.loop-c in
-    let some : 0 < l.count =
-    left-some (rows_of a.offsets.now a.neighbors.now) (opens a.cap a.weights.now a.owners.now a.load) l.head l.place l.count
-    (sym c.stops.ensures ∙ c.loop-c-test.true) in
-    (c.requires.0.lists, c.requires.1, head_in a.links.now (vertex_count a.offsets.now) l.head l.count l.invariant.inside some, some)
+    let h = c.loop-here.here in
+    let some : 0 < h.count =
+    left-some (rows_of a.offsets.now a.neighbors.now) (opens a.cap a.weights.now a.owners.now a.load) h.head h.place h.count
+    (sym c.stops.ensures ∙ c.loop-here-test.true) in
+    (c.requires.0.lists, c.requires.1, head_in a.links.now (vertex_count a.offsets.now) h.head h.count c.loop-here.invariant.inside some, some)
 
-pub loop-c-smaller : goal.loop-c-smaller
-loop-c-smaller c =
+pub loop-here-smaller : goal.loop-here-smaller
+loop-here-smaller c =
     let a = c.args in
-    let l = c.loop-c in
-    let r = c.onward-c.result in
+    let h = c.loop-here.here in
+    let r = c.onward-here.result in
     (going-on (rows_of a.offsets.now a.neighbors.now) a.links.now (opens a.cap a.weights.now a.owners.now a.load)
     (vertex_count a.offsets.now) a.from.head a.from.place a.from.count
-    l.head l.place l.count r.head r.place r.count l.invariant
-    (sym c.stops.ensures ∙ c.loop-c-test.true) c.onward-c.ensures).1
+    h.head h.place h.count r.head r.place r.count c.loop-here.invariant
+    (sym c.stops.ensures ∙ c.loop-here-test.true) c.onward-here.ensures).1
 
-pub loop-c-preserved : goal.loop-c-preserved
-loop-c-preserved c =
+pub loop-here-preserved : goal.loop-here-preserved
+loop-here-preserved c =
     let a = c.args in
-    let l = c.loop-c in
-    let r = c.onward-c.result in
+    let h = c.loop-here.here in
+    let r = c.onward-here.result in
     (going-on (rows_of a.offsets.now a.neighbors.now) a.links.now (opens a.cap a.weights.now a.owners.now a.load)
     (vertex_count a.offsets.now) a.from.head a.from.place a.from.count
-    l.head l.place l.count r.head r.place r.count l.invariant
-    (sym c.stops.ensures ∙ c.loop-c-test.true) c.onward-c.ensures).0
-
-pub returns : goal.returns
-returns c = record { going = c.loop-c.invariant; stopped = sym c.stops.ensures ∙ c.loop-c-test.false }
+    h.head h.place h.count r.head r.place r.count c.loop-here.invariant
+    (sym c.stops.ensures ∙ c.loop-here-test.true) c.onward-here.ensures).0

@@ -5,10 +5,10 @@ use Rattle.links.specs.Graph.{rows_of, vertex_count}
 use Rattle.stages.specs.FrontierCode.{opens, front, Going}
 use Rattle.stages.proofs.growth.seek.Given as goal
 
-abbrev pub invariant-loop-c : goal.invariant-loop-c
-invariant-loop-c l =
-    Going (rows_of l.offsets l.neighbors) l.links (opens l.cap l.weights l.owners l.load) (vertex_count l.offsets) l.initial.head l.initial.place l.initial.count l.head l.place l.count
+abbrev pub invariant-loop-here : goal.invariant-loop-here
+invariant-loop-here l =
+    Going (rows_of l.offsets l.neighbors) l.links (opens l.cap l.weights l.owners l.load) (vertex_count l.offsets) l.fn.from.head l.fn.from.place l.fn.from.count l.here.head l.here.place l.here.count
 
-abbrev pub decreases-loop-c : goal.decreases-loop-c
-decreases-loop-c l =
-    length (front (rows_of l.offsets l.neighbors) l.links l.head l.place l.count) + l.count
+abbrev pub decreases-loop-here : goal.decreases-loop-here
+decreases-loop-here l =
+    length (front (rows_of l.offsets l.neighbors) l.links l.here.head l.here.place l.here.count) + l.here.count

@@ -1,19 +1,9 @@
 -- No rank tempts v, so that it has no target; or the tallies are made and cleared again, so that the slice is as it was. Assumes nothing.
 use Prim.Native.Nat.{◌+◌}
 use mathlib.Core.Path.{refl}
-use native.Mathlib.Omega.{arith}
 use Rattle.stages.specs.Level.{rows_at, weights_at, owners_at}
 use Rattle.stages.proofs.MovesTurnLaws.{tallies-roomed, weighed-kept, target-kept, cleared-again, no-offer}
 use Rattle.stages.proofs.moves.choose.Goals as goal
-
-pub tempted-requires : goal.tempted-requires
-tempted-requires c = (c.requires.0.weighed, c.requires.1)
-
-pub overflow_add-tallies : goal.overflow_add-tallies
-overflow_add-tallies c = record { fits = omega (arith, c.requires.0.weighed.room, c.well_formed.0.0) }
-
-pub tally-requires : goal.tally-requires
-tally-requires c = (tallies-roomed c.requires.0.weighed, c.requires.1, c.requires.0.clear)
 
 pub best_offer-best-requires : goal.best_offer-best-requires
 best_offer-best-requires c =
@@ -25,8 +15,8 @@ clear_tallies-requires c =
     let t = c.tally.ensures in
     (tallies-roomed (weighed-kept c.requires.0.weighed t.1), c.requires.1, t.0)
 
-pub returns-then-tempted : goal.returns-then-tempted
-returns-then-tempted c =
+pub returns : goal.returns
+returns c =
     let t = c.tally.ensures in
     let u = c.clear_tallies.ensures in (
       target-kept c.requires.0.weighed t.1 c.args.limits c.args.v _ c.best_offer-best.ensures,
@@ -34,8 +24,8 @@ returns-then-tempted c =
           u.1,
     )
 
-pub returns : goal.returns
-returns c =
+pub returns-then-not-tempted : goal.returns-then-not-tempted
+returns-then-not-tempted c =
     let s = c.args in
     let w = s.work.now in
-    (no-offer s.limits (rows_at w s.l) (weights_at w s.l) (owners_at w s.l) s.v c.tempted.result c.tempted.ensures c.if-tempted.false, refl)
+    (no-offer s.limits (rows_at w s.l) (weights_at w s.l) (owners_at w s.l) s.v c.tempted.result c.tempted.ensures c.if-not-tempted.true, refl)

@@ -1,11 +1,7 @@
 -- The invariant: what is left of the pass leads to the same end. Assumes nothing.
-use Prim.Native.Nat.{◌-◌, ◌≤◌}
-use mathlib.Core.Path.{◌≡◌}
+use Prim.Native.Nat.{◌≤◌}
 use Rattle.stages.proofs.MovesPassLaws.{Passing}
 use Rattle.stages.proofs.moves.pass.Given as goal
 
 abbrev pub invariant-loop-v : goal.invariant-loop-v
-invariant-loop-v l = (l.v ≤ l.n) × (l.n ≡ l.l.vertices) × (l.moved ≤ l.v) × Passing l.initial.work l.work l.l l.scratch l.limits l.moved l.v
-
-abbrev pub decreases-loop-v : goal.decreases-loop-v
-decreases-loop-v l = l.n - l.v
+invariant-loop-v l = (l.moved ≤ l.v) × Passing l.initial.work l.work l.l l.scratch l.limits l.moved l.v

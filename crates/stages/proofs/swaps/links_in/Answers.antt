@@ -1,51 +1,36 @@
+-- The neighbors that rank r owns are counted; each is a place of the owners. Assumes nothing.
+use mathlib.Core.Path.{◌≡◌, ap, ◌∙◌}
 use Prim.Native.Nat.{ℕ}
-use mathlib.Core.List.{List}
-use mathlib.Core.Path.{◌≡◌, sym, ap, ◌∙◌}
 use native.Mathlib.Omega.{arith}
+use lib.Dec.{eqb}
 use lib.ListN.{length}
-use borrow.Author.Tests.{eq-eqb, ne_eqb}
+use Rattle.std.proofs.Common.{rules}
+use Rattle.std.specs.List.{count_by}
+use Rattle.std.proofs.lemmas.Grind.{get_or_default_zero}
+use Rattle.std.proofs.lemmas.Iterator.{YieldsList-from_slice}
+use Rattle.std.proofs.lemmas.Iterator.Adapters.{serves_from_places}
+use Rattle.std.proofs.lemmas.List.Sums.{count_by-le-length}
 use Rattle.links.specs.Lists.{at}
-use Rattle.links.specs.Parts.{part}
 use Rattle.links.specs.Graph.{links_in}
-use Rattle.links.proofs.ListLaws.{tally}
-use Rattle.stages.proofs.TallyLaws.{links-cons, links-none}
-use Rattle.stages.proofs.SwapListLaws.{part-whole}
+use Rattle.links.proofs.ChainLaws.{count-chain}
 use Rattle.stages.proofs.swaps.links_in.Goals as goal
-use Rattle.stages.proofs.swaps.links_in.Goals.{then-owners-u, else-owners-u}
 
-pub loop-i-init : goal.loop-i-init
-loop-i-init c =
-    let a = c.args in
-    (omega arith, omega arith, omega (arith, ap (λ (z : List ℕ). links_in z a.owners.now a.r) (part-whole a.row.now)))
-
-pub offset_bounds-owners-u : goal.offset_bounds-owners-u
-offset_bounds-owners-u c = omega (arith, c.index-u.ensures, c.requires.1 c.loop-i.i (omega arith))
-
-pub bounds-owners-u : goal.bounds-owners-u
-bounds-owners-u c = omega (arith, c.index-u.ensures, c.requires.1 c.loop-i.i (omega arith))
-
-pub overflow_add-n : goal.overflow_add-n
-overflow_add-n c = omega arith
-
-pub loop-i-smaller : goal.loop-i-smaller
-loop-i-smaller c = omega arith
-
-pub loop-i-preserved : goal.loop-i-preserved
-loop-i-preserved c =
-    let l = c.loop-i in
-    let a = c.args in
-    let k = links-cons a.row.now a.owners.now l.i (length a.row.now) a.r (omega arith) (omega arith) in
-    let o : at a.owners.now (at a.row.now l.i) ≡ at a.owners.now c.index-u.result = ap (at a.owners.now) (sym c.index-u.ensures) in
-    elim c.if-owners-u.branch [
-      | then-owners-u w ↦
-          (omega arith, omega arith, omega (arith, k, ap tally (eq-eqb _ _ (o ∙ w.if-owners-u.true))))
-      | else-owners-u w ↦
-          (omega arith, omega arith, omega (arith, k, ap tally (ne_eqb _ _ (λ q. w.if-owners-u.false (sym o ∙ q)))))
-    ]
+pub count-requires-clause-can : goal.count-requires-clause-can
+count-requires-clause-can c =
+    let owners = ap (λ p. length p.0.now) c.filter.ensures.closure in (
+      tt,
+      tt,
+      serves_from_places (YieldsList-from_slice c.args.row.now cc) (λ x q k. search rules) (λ x k h e y i. (
+        λ _ _ _ _ _ _ f. omega (arith, f),
+        λ _ _ _ _ _ _ f g.
+            let u : y.now.now ≡ at c.args.row.now k = ap (λ z. z.now) i ∙ e ∙ get_or_default_zero c.args.row.now k x.now h in
+            omega (arith, c.requires.1 k h, owners),
+      )),
+    )
 
 pub returns : goal.returns
+unfolding links_in
 returns c =
-    let l = c.loop-i in
-    let a = c.args in
-    let e : l.i ≡ length a.row.now = omega arith in
-    (omega arith, omega (arith, links-none a.row.now a.owners.now (length a.row.now) a.r, ap (λ (i : ℕ). links_in (part a.row.now i (length a.row.now)) a.owners.now a.r) e))
+    let owned = λ (u : ℕ). eqb (at c.args.owners.now u) c.args.r in
+    let e : c.count.result ≡ count_by owned c.args.row.now = search rules in
+    (omega (arith, count_by-le-length owned c.args.row.now), e ∙ count-chain owned c.args.row.now)

@@ -11,13 +11,13 @@ use Rattle.stages.proofs.swaps.links_to.Goals as goal
 
 pub links_in-requires : goal.links_in-requires
 links_in-requires c =
-    let e = c.row_of.ensures in
+    let e = c.row.ensures in
     (rw e (row-few c.requires.0 c.args.v c.requires.1), rw e (row_under c.requires.0 c.args.v c.requires.1))
 
 pub returns : goal.returns
 returns c =
     let a = c.args in
-    let e = c.row_of.ensures in (
+    let e = c.row.ensures in (
       omega (arith, ap length e, row-few c.requires.0 a.v c.requires.1, c.links_in.ensures.0),
       c.links_in.ensures.1 ∙ ap (λ (z : List ℕ). links_in z (owners_at a.w.now a.s.level) a.r) e,
     )

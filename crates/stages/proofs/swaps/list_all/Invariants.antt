@@ -1,5 +1,5 @@
 -- The invariant: each list holds what the vertices below v make of it. Assumes nothing.
-use Prim.Native.Nat.{ℕ, ◌-◌, ◌≤◌, ◌<◌}
+use Prim.Native.Nat.{ℕ, ◌<◌}
 use mathlib.Core.Path.{◌≡◌}
 use lib.ListN.{length}
 use Rattle.links.specs.Parts.{Kept}
@@ -10,10 +10,11 @@ use Rattle.stages.proofs.SwapListLaws.{listed_to}
 use Rattle.stages.proofs.swaps.list_all.Given as goal
 
 abbrev pub invariant-loop-v : goal.invariant-loop-v
-invariant-loop-v l =
-    (l.v ≤ l.n) × (length l.work ≡ length l.initial.work) × Kept l.s.tallies (length l.initial.work) l.work l.initial.work × Clear l.work l.s.tallies l.s.limits.ranks
-    × ((a b : ℕ) → a < l.s.limits.ranks → b < l.s.limits.ranks → (a ≡ b → ⊥) → list_at l.work l.s a b ≡ listed_to l.s.list_length (rows_at l.initial.work l.s.level) (owners_at l.initial.work l.s.level) a b l.v)
-    × AllSorted l.work l.s
-
-abbrev pub decreases-loop-v : goal.decreases-loop-v
-decreases-loop-v l = l.n - l.v
+invariant-loop-v l = record {
+  kept : Kept l.s.tallies (length l.initial.work) l.work l.initial.work;
+  clear : Clear l.work l.s.tallies l.s.limits.ranks;
+  lists
+      : (a b : ℕ) → a < l.s.limits.ranks → b < l.s.limits.ranks → (a ≡ b → ⊥)
+      → list_at l.work l.s a b ≡ listed_to l.s.list_length (rows_at l.initial.work l.s.level) (owners_at l.initial.work l.s.level) a b l.v;
+  sorted : AllSorted l.work l.s;
+}

@@ -2,15 +2,6 @@
 use Rattle.stages.proofs.ListingLaws.{unlisted}
 use Rattle.stages.proofs.swaps.list_vertex.Goals as goal
 
-pub borders-requires : goal.borders-requires
-borders-requires c = (c.requires.0, c.requires.1)
-
-pub list_counted-requires : goal.list_counted-requires
-list_counted-requires c = c.requires
-
-pub returns-then-borders : goal.returns-then-borders
-returns-then-borders c = c.list_counted.ensures
-
 pub returns-else-borders : goal.returns-else-borders
 returns-else-borders c =
     let p = c.requires in

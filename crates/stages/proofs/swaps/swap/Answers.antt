@@ -1,19 +1,6 @@
 -- The owners and the flags change, then the loads. Assumes nothing.
-use Rattle.stages.proofs.SwapsSliceLaws.{whole}
 use Rattle.stages.proofs.SwapStepLaws.{tradable, swapped}
 use Rattle.stages.proofs.swaps.swap.Goals as goal
-
-pub owner_in-a-requires : goal.owner_in-a-requires
-owner_in-a-requires c = (whole c.requires.0.given, c.requires.1)
-
-pub owner_in-b-requires : goal.owner_in-b-requires
-owner_in-b-requires c = (whole c.requires.0.given, c.requires.2)
-
-pub weight_in-x-requires : goal.weight_in-x-requires
-weight_in-x-requires c = (whole c.requires.0.given, c.requires.1)
-
-pub weight_in-y-requires : goal.weight_in-y-requires
-weight_in-y-requires c = (whole c.requires.0.given, c.requires.2)
 
 pub trade-requires : goal.trade-requires
 trade-requires c =

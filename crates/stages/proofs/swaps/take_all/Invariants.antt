@@ -1,8 +1,6 @@
 -- The invariant: the proposals of the slots before j are taken. Assumes nothing.
-use Prim.Native.Nat.{◌-◌, ◌≤◌}
-use mathlib.Core.Path.{◌≡◌}
+use Prim.Native.Nat.{◌≤◌}
 use mathlib.Core.List.{List, []}
-use lib.ListN.{length}
 use Rattle.stages.specs.Swaps.{Proposal}
 use Rattle.stages.specs.Slots.{proposal}
 use Rattle.stages.specs.SwapsCode.{Named, Taken}
@@ -12,8 +10,5 @@ use Rattle.stages.proofs.swaps.take_all.Given as goal
 
 abbrev pub invariant-loop-j : goal.invariant-loop-j
 invariant-loop-j l =
-    (l.j ≤ l.n) × (l.done ≤ l.j) × (length l.work ≡ length l.initial.work)
+    (l.done ≤ l.j)
     × ((ps : List Proposal) × Walk proposal snoc (Named l.s.level.vertices) l.n l.list [] l.j ps × Taken l.initial.work l.work l.s l.done ps)
-
-abbrev pub decreases-loop-j : goal.decreases-loop-j
-decreases-loop-j l = l.n - l.j

@@ -10,7 +10,7 @@ returns-then-applies c =
     let a = c.args in
     (omega arith, λ g. taken-swap (proposal g a.u a.v) c.swap.new.work (λ used m. sym c.if-applies.true ∙ c.applies.ensures used m) c.swap.ensures)
 
-pub returns : goal.returns
-returns c =
+pub returns-else-applies : goal.returns-else-applies
+returns-else-applies c =
     let a = c.args in
     (omega arith, λ g. taken-skip (proposal g a.u a.v) c.requires.0 (λ used m. sym c.if-applies.false ∙ c.applies.ensures used m))

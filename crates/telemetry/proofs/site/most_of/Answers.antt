@@ -1,17 +1,12 @@
-use Rattle.std.proofs.Common.{sym, ◌∙◌, arith}
-use Rattle.links.specs.Lists.{at}
-use Rattle.telemetry.proofs.SiteLaws.{greatest-start, greatest-more, greatest-done}
+use Rattle.std.proofs.Common.{ℕ, ◌∙◌, take, arith}
+use Rattle.std.proofs.lemmas.Iterator.{YieldsList-from_slice}
+use Rattle.std.proofs.lemmas.Iterator.Consumers.{max_from_yields_List, YieldsList-from_copied, YieldsList-at}
+use Rattle.telemetry.proofs.SiteLaws.{greatest-picked}
 use Rattle.telemetry.proofs.site.most_of.Goals as goal
-
-pub loop-rank-init : goal.loop-rank-init
-loop-rank-init c = (omega arith, greatest-start (at c.args.counts.now) c.args.ranks)
-
-pub loop-rank-preserved : goal.loop-rank-preserved
-loop-rank-preserved c =
-    let a = c.args in
-    (omega arith, rw c.larger-most.ensures (greatest-more (at a.counts.now) c.loop-rank.rank a.ranks c.loop-rank.most c.loop-rank-test.true ∙ c.loop-rank.invariant.1))
 
 pub returns : goal.returns
 returns c =
-    let a = c.args in
-    sym (greatest-done (at a.counts.now) c.loop-rank.rank a.ranks c.loop-rank.most c.loop-rank-test.false) ∙ c.loop-rank.invariant.1
+    let counts = c.args.counts.now in
+    let first = YieldsList-from_slice (take c.args.ranks counts) c.iter.ensures.rest in
+    let most = max_from_yields_List {v = λ (x : ℕ). x} _ _ c.max.ensures.ran (YieldsList-from_copied (YieldsList-at c.copied.ensures.source first)) in
+    c.unwrap_or.ensures ∙ greatest-picked c.max.result counts c.args.ranks most (omega arith)

@@ -1,10 +1,11 @@
 -- The last day tells. Assumes nothing.
-use native.Mathlib.Omega.{arith}
-use Rattle.visits.proofs.CraneLaws.{none-late, last-late}
+use Rattle.std.proofs.Common.{◌≡◌, ◌-◌, ◌∙◌, length, ltb, rules, tests}
+use Rattle.links.specs.Lists.{at}
+use Rattle.visits.proofs.CraneLaws.{last-tells}
 use Rattle.visits.proofs.crane.any_late.Goals as goal
 
-pub returns-then-days-eq0 : goal.returns-then-days-eq0
-returns-then-days-eq0 c = none-late c.args.days.now 3660 c.if-days-eq0.true
-
 pub returns : goal.returns
-returns c = last-late c.args.days.now 3660 c.requires (omega (arith, c.if-days-eq0.false))
+returns c =
+    let days = c.args.days.now in
+    let late : c.is_some_and.result ≡ ltb 3660 (at days (length days - 1)) = search (rules, tests) in
+    late ∙ last-tells days 3660 c.requires

@@ -1,8 +1,8 @@
-use Rattle.visits.proofs.CraneLaws.{onward-start, onward-ready, onward-step, onward-less, onward-end}
+use Rattle.visits.proofs.CraneLaws.{onward-start, onward-ready, onward-step, onward-less}
 use Rattle.visits.proofs.crane.sweep_all.Goals as goal
 
 pub loop-s-init : goal.loop-s-init
-loop-s-init c = onward-start c.args.w c.args.days.now
+loop-s-init c = onward-start c.args.w c.args.days.now c.default-s.result c.default-s.ensures
 
 pub step-s-requires : goal.step-s-requires
 step-s-requires c =
@@ -15,6 +15,3 @@ loop-s-smaller c =
 pub loop-s-preserved : goal.loop-s-preserved
 loop-s-preserved c =
     rw c.step-s.ensures (onward-step c.args.w c.args.days.now c.loop-s.s c.loop-s.invariant c.requires.0 c.loop-s-test.true)
-
-pub returns : goal.returns
-returns c = onward-end c.args.w c.args.days.now c.loop-s.s c.loop-s.invariant c.requires.0 c.loop-s-test.false

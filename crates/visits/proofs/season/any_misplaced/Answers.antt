@@ -1,32 +1,26 @@
-use mathlib.Core.Path.{◌∙◌}
-use native.Mathlib.Omega.{arith}
-use lib.ListN.{length}
-use Rattle.links.proofs.RangeLaws.{any-more, any-ends, any-done, any-start}
-use Rattle.visits.specs.Season.{misplaced}
+-- Each rank's part is asked in turn. Assumes nothing.
+use Rattle.std.proofs.Common.{ℕ, ◌+◌, ◌∙◌, length, ap, rules, tests, refl, arith}
+use Rattle.std.specs.Prelude.{not}
+use Rattle.std.proofs.lemmas.Iterator.{serves_from_Range, YieldsList-from_range}
+use Rattle.std.proofs.lemmas.Iterator.Search.{any_from_yields_List}
+use Rattle.links.specs.Lists.{at, any}
+use Rattle.links.specs.Parts.{part}
+use Rattle.links.proofs.ListLaws.{any-ext}
+use Rattle.links.proofs.ChainLaws.{any-chain, range-chain}
+use Rattle.visits.specs.Season.{windows_in, good_windows, misplaced}
 use Rattle.visits.proofs.SeasonLaws.{part-there, misplaced-is}
 use Rattle.visits.proofs.season.any_misplaced.Goals as goal
 
-pub starts_of-starts-requires : goal.starts_of-starts-requires
-starts_of-starts-requires c = c.requires.few
-
-pub loop-rank-init : goal.loop-rank-init
-loop-rank-init c = (omega arith, any-start (misplaced c.args.counts.now c.args.days.now) (length c.args.counts.now))
-
-pub windows_of-requires : goal.windows_of-requires
-windows_of-requires c = part-there c.requires c.starts_of-starts.ensures c.loop-rank.rank c.loop-rank-test.true
-
-pub returns-then-not-good_windows : goal.returns-then-not-good_windows
-returns-then-not-good_windows c =
-    let is = misplaced-is c.requires c.starts_of-starts.ensures c.loop-rank.rank c.loop-rank-test.true c.windows_of.ensures c.good_windows.ensures in
-    any-ends (misplaced c.args.counts.now c.args.days.now) _ c.loop-rank.rank c.loop-rank-test.true (is ∙ c.if-not-good_windows.true-raw) ∙ c.loop-rank.invariant.1
-
-pub loop-rank-preserved : goal.loop-rank-preserved
-loop-rank-preserved c =
-    let is = misplaced-is c.requires c.starts_of-starts.ensures c.loop-rank.rank c.loop-rank-test.true c.windows_of.ensures c.good_windows.ensures in
-    (omega arith, any-more (misplaced c.args.counts.now c.args.days.now) _ c.loop-rank.rank c.loop-rank-test.true (is ∙ c.if-not-good_windows.false-raw) ∙ c.loop-rank.invariant.1)
+pub any-requires-clause-callable : goal.any-requires-clause-callable
+any-requires-clause-callable c =
+    serves_from_Range (λ x q k. search rules) (λ x a b _ _ _ _ _ _ _ _. part-there c.requires c.starts_of-starts.ensures x b)
 
 pub returns : goal.returns
 returns c =
-    let l = c.loop-rank in
-    let counts = c.args.counts.now in
-    any-done (misplaced counts c.args.days.now) (length counts) l.rank c.loop-rank-test.false ∙ l.invariant.1
+    let n = length c.args.counts.now in
+    let starts = c.starts_of-starts.result in
+    let p = λ (r : ℕ). not (good_windows (windows_in (part c.args.days.now (at starts r) (at starts (r + 1))))) in
+    any_from_yields_List p _ _ _ c.any.ensures.ran (YieldsList-from_range 0 n n refl (omega arith)) (λ x b q k. search (rules, tests))
+    ∙ any-chain p _
+    ∙ ap (any p) (range-chain 0 n)
+    ∙ any-ext p (misplaced c.args.counts.now c.args.days.now) 0 n (λ x h k. misplaced-is c.requires c.starts_of-starts.ensures x (omega arith))

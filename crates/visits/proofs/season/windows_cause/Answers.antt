@@ -3,9 +3,6 @@ use mathlib.Core.Path.{sym, ◌∙◌}
 use Rattle.visits.proofs.SeasonLaws.{windows-passed, windows-days}
 use Rattle.visits.proofs.season.windows_cause.Goals as goal
 
-pub returns-then-bad_windows : goal.returns-then-bad_windows
-returns-then-bad_windows c = rw (← c.bad_windows.ensures, c.if-bad_windows.true)
-
 pub too_few_days-requires : goal.too_few_days-requires
 too_few_days-requires c =
     let a = c.args in

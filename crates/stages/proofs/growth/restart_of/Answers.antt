@@ -1,9 +1,0 @@
--- 1 for a restart. Assumes nothing.
-use borrow.Author.Tests.{eq-eqb, ne_eqb}
-use Rattle.stages.proofs.growth.restart_of.Goals as goal
-
-pub returns-then-x-eq2 : goal.returns-then-x-eq2
-returns-then-x-eq2 c = rw (eq-eqb _ _ c.if-x-eq2.true)
-
-pub returns-else-x-eq2 : goal.returns-else-x-eq2
-returns-else-x-eq2 c = rw (ne_eqb _ _ c.if-x-eq2.false)
