@@ -25,41 +25,42 @@ fn cut_in(work: &[u32], l: HierarchyLevel) -> u64
     )
 }
 
-// 1 if u's owner is not home and has no mark yet: it gets one.
-fn meet(work: &mut [u32], own: usize, seen: usize, u: usize, home: u32, mark: u32) -> u64
-    requires { (own + u < length work.old) × (seen + at work.old (own + u) < length work.old) }
-    ensures { Met work.old work.new (at work.old (own + u)) home seen mark result }
+// By which a vertex marks the ranks that it meets: where the owners and the ranks' marks lie, how many ranks there are, its own rank, and its mark.
+#[derive(Clone, Copy)]
+pub struct Marker {
+    pub own: usize,
+    pub seen: usize,
+    pub ranks: usize,
+    pub home: u32,
+    pub mark: u32,
+}
+
+// 1 if u's owner is not home and has not the mark yet: it gets it.
+fn meet(work: &mut [u32], by: Marker, u: usize) -> u64
+    requires { (by.own + u < length work.old) × (by.seen + at work.old (by.own + u) < length work.old) }
+    ensures { Met work.old work.new (at work.old (by.own + u)) by.home by.seen by.mark result }
 {
-    let rank = work[own + u];
-    if rank == home {
+    let rank = work[by.own + u];
+    if rank == by.home {
         return 0;
     }
-    let place = seen + rank as usize;
-    if work[place] == mark {
+    let place = by.seen + rank as usize;
+    if work[place] == by.mark {
         return 0;
     }
-    work[place] = mark;
+    work[place] = by.mark;
     1
 }
 
 // How many ranks other than home own a vertex of the row from a up to e.
-fn meet_row(
-    work: &mut [u32],
-    own: usize,
-    seen: usize,
-    ranks: usize,
-    a: usize,
-    e: usize,
-    home: u32,
-    mark: u32,
-) -> u64
-    requires { Legible work.old own seen ranks a e mark }
-    ensures { RowMet work.old work.new own seen ranks a e home mark result }
+fn meet_row(work: &mut [u32], by: Marker, a: usize, e: usize) -> u64
+    requires { Legible work.old by.own by.seen by.ranks a e by.mark }
+    ensures { RowMet work.old work.new by.own by.seen by.ranks a e by.home by.mark result }
 {
     let mut x: u64 = 0;
     for i in a..e {
         let u = work[i] as usize;
-        x += meet(work, own, seen, u, home, mark);
+        x += meet(work, by, u);
     }
     x
 }
@@ -71,8 +72,14 @@ fn meet_vertex(work: &mut [u32], l: HierarchyLevel, seen: usize, ranks: usize, v
 {
     let a = l.neighbors + work[l.offsets + v] as usize;
     let e = l.neighbors + work[l.offsets + (v + 1)] as usize;
-    let home = work[l.owners + v];
-    meet_row(work, l.owners, seen, ranks, a, e, home, v as u32 + 1)
+    let by = Marker {
+        own: l.owners,
+        seen,
+        ranks,
+        home: work[l.owners + v],
+        mark: v as u32 + 1,
+    };
+    meet_row(work, by, a, e)
 }
 
 fn volume_in(work: &mut [u32], l: HierarchyLevel, seen: usize, ranks: usize) -> u64

@@ -3,7 +3,7 @@ ghost use Rattle.std.specs.Prelude.{◌≡◌, true, ◌+◌, ◌-◌, ◌*◌, 
 ghost use Rattle.std.proofs.Math.Option.{none, some};
 ghost use Rattle.links.specs.Lists.{at, unassigned, All};
 ghost use Rattle.links.specs.Graph.{row, degree, rows_of, vertex_count, load, SoundLists};
-ghost use Rattle.stages.specs.Level.{weights_at};
+ghost use Rattle.stages.specs.Level.{weights_at, owners_at};
 ghost use Rattle.stages.specs.FrontierCode.{opens, stops_at, Onward, Chain, Sought, FirstOpen, candidate_at, Lent, rows_in, weights_in, order_in, memory_in, vacant_in, GrowthLaid, parked, owning, begun, appended, GrowthReady, Stored};
 ghost use Rattle.stages.specs.GrowthCode.{open_in, open_now, SoughtIn, restart_in, Behind, Advanced, Claimed, TurnMade, Rounded, GrownTo, Sown, Blank, Cleared, Seated, Multisource, too_heavy, room_at, Growable, GrownTold};
 
@@ -33,45 +33,12 @@ fn neighbor(offsets: &[u32], neighbors: &[u32], v: u32, i: u32) -> u32
     neighbors[start + i as usize]
 }
 
-// Is g unowned, and does it fit a rank of this load?
-fn is_open(weights: &[u32], owners: &[u32], load: u32, cap: u64, g: u32) -> bool
-    requires { (g < length weights.now) × (g < length owners.now) }
-    ensures { result ≡ opens cap weights.now owners.now load g }
-{
-    let i = g as usize;
-    owners[i] == UNASSIGNED && u64::from(load) + u64::from(weights[i]) <= cap
-}
-
 // A place in a chain: an entry, a place in its row, and how many entries there are from this one on.
 #[derive(Clone, Copy)]
 pub struct Cursor {
     pub head: u32,
     pub place: u32,
     pub count: u32,
-}
-
-// Does a search stop here, at the chain's end or at a candidate that is open?
-fn stops(
-    offsets: &[u32],
-    neighbors: &[u32],
-    weights: &[u32],
-    owners: &[u32],
-    load: u32,
-    cap: u64,
-    here: Cursor,
-) -> bool
-    requires { Lent offsets.now neighbors.now weights.now owners.now × (0 < here.count → here.head < vertex_count offsets.now) }
-    ensures { result ≡ stops_at (rows_of offsets.now neighbors.now) (opens cap weights.now owners.now load) here.head here.place here.count }
-{
-    here.count == 0
-        || here.place < degree_of(offsets, neighbors, here.head)
-            && is_open(
-                weights,
-                owners,
-                load,
-                cap,
-                neighbor(offsets, neighbors, here.head, here.place),
-            )
 }
 
 // One candidate on, or one entry on.
@@ -93,47 +60,64 @@ fn onward(offsets: &[u32], neighbors: &[u32], links: &[u32], here: Cursor) -> Cu
     }
 }
 
-// From a place in a chain to the first candidate that is open, or to the chain's end.
-fn seek(
-    offsets: &[u32],
-    neighbors: &[u32],
-    weights: &[u32],
-    owners: &[u32],
-    links: &[u32],
-    load: u32,
-    cap: u64,
-    from: Cursor,
-) -> Cursor
-    requires { Lent offsets.now neighbors.now weights.now owners.now × (length links.now ≡ vertex_count offsets.now)
-        × Chain (rows_of offsets.now neighbors.now) links.now (vertex_count offsets.now) from.head from.place from.count }
-    ensures { Sought (rows_of offsets.now neighbors.now) links.now (opens cap weights.now owners.now load)
-        (vertex_count offsets.now) from.head from.place from.count result.head result.place result.count }
-{
-    let mut here = from;
-    while !stops(offsets, neighbors, weights, owners, load, cap, here) {
-        here = onward(offsets, neighbors, links, here);
-    }
-    here
+// A rank that looks for a group to claim: the groups' weights and owners, the rank's load, and the cap.
+#[derive(Clone, Copy)]
+pub struct Claimant<'a> {
+    pub weights: &'a [u32],
+    pub owners: &'a [u32],
+    pub load: u32,
+    pub cap: u64,
 }
 
-// The place of the first group of the order, at or after `from`, that is open; the order's end where none is.
-fn first_open(
-    order: &[u32],
-    weights: &[u32],
-    owners: &[u32],
-    load: u32,
-    cap: u64,
-    from: usize,
-) -> usize
-    requires { All (λ g. (g < length weights.now) × (g < length owners.now)) order.now × (from ≤ length order.now) }
-    ensures { FirstOpen (opens cap weights.now owners.now load) order.now from result }
-{
-    for p in from..order.len() {
-        if is_open(weights, owners, load, cap, order[p]) {
-            return p;
-        }
+impl<'a> Claimant<'a> {
+    // Is g unowned, and does it fit the rank?
+    #[tactic(auto, unfolding(crate::specs::FrontierCode::opens))]
+    fn is_open(self, g: u32) -> bool
+        requires { (g < length self.weights.now) × (g < length self.owners.now) }
+        ensures { result ≡ opens self.entry.cap self.entry.weights.now self.entry.owners.now self.entry.load g }
+    {
+        let i = g as usize;
+        self.owners[i] == UNASSIGNED
+            && u64::from(self.load) + u64::from(self.weights[i]) <= self.cap
     }
-    order.len()
+
+    // Does a search stop here, at the chain's end or at a candidate that is open?
+    #[tactic(auto, using(links::proofs::RowLaws::row_below), unfolding(crate::specs::FrontierCode::stops_at))]
+    fn stops(self, offsets: &[u32], neighbors: &[u32], here: Cursor) -> bool
+        requires { Lent offsets.now neighbors.now self.weights.now self.owners.now × (0 < here.count → here.head < vertex_count offsets.now) }
+        ensures { result ≡ stops_at (rows_of offsets.now neighbors.now) (opens self.entry.cap self.entry.weights.now self.entry.owners.now self.entry.load) here.head here.place here.count }
+    {
+        here.count == 0
+            || here.place < degree_of(offsets, neighbors, here.head)
+                && self.is_open(neighbor(offsets, neighbors, here.head, here.place))
+    }
+
+    // From a place in a chain to the first candidate that is open, or to the chain's end.
+    fn seek(self, offsets: &[u32], neighbors: &[u32], links: &[u32], from: Cursor) -> Cursor
+        requires { Lent offsets.now neighbors.now self.weights.now self.owners.now × (length links.now ≡ vertex_count offsets.now)
+            × Chain (rows_of offsets.now neighbors.now) links.now (vertex_count offsets.now) from.head from.place from.count }
+        ensures { Sought (rows_of offsets.now neighbors.now) links.now (opens self.entry.cap self.entry.weights.now self.entry.owners.now self.entry.load)
+            (vertex_count offsets.now) from.head from.place from.count result.head result.place result.count }
+    {
+        let mut here = from;
+        while !self.stops(offsets, neighbors, here) {
+            here = onward(offsets, neighbors, links, here);
+        }
+        here
+    }
+
+    // The place of the first group of the order, at or after `from`, that is open; the order's end where none is.
+    fn first_open(self, order: &[u32], from: usize) -> usize
+        requires { All (λ g. (g < length self.weights.now) × (g < length self.owners.now)) order.now × (from ≤ length order.now) }
+        ensures { FirstOpen (opens self.entry.cap self.entry.weights.now self.entry.owners.now self.entry.load) order.now from result }
+    {
+        for p in from..order.len() {
+            if self.is_open(order[p]) {
+                return p;
+            }
+        }
+        order.len()
+    }
 }
 
 // Where a growth lies in the work slice: the level; its order by degree; the ranks' seeds; a link of a chain for each group; then, for each rank, its load, and its
@@ -196,6 +180,23 @@ fn append(work: &mut [u32], room: GrowthRoom, r: usize, g: u32)
     work[room.counts + r] = count;
 }
 
+// Rank r, with the groups as they are now.
+fn claimant_at<'a>(w: &'a [u32], room: GrowthRoom, cap: u64, r: usize) -> Claimant<'a>
+    requires { GrowthLaid room (length w.now) × (r < room.ranks) }
+    ensures weights { result.weights.now ≡ weights_at w.now room.level }
+    ensures owners { result.owners.now ≡ owners_at w.now room.level }
+    ensures load { result.load ≡ at w.now (room.loads + r) }
+    ensures cap { result.cap ≡ cap }
+{
+    let l = room.level;
+    Claimant {
+        weights: &w[l.weights..l.weights + l.vertices],
+        owners: &w[l.owners..l.owners + l.vertices],
+        load: w[room.loads + r],
+        cap,
+    }
+}
+
 // The place of rank r's first open candidate in its chain.
 fn sought(w: &[u32], room: GrowthRoom, cap: u64, r: usize) -> Cursor
     requires { GrowthReady room w.now × (r < room.ranks) }
@@ -208,14 +209,10 @@ fn sought(w: &[u32], room: GrowthRoom, cap: u64, r: usize) -> Cursor
         place: w[room.places + r],
         count: w[room.counts + r],
     };
-    seek(
+    claimant_at(w, room, cap, r).seek(
         &w[l.offsets..l.offsets + (n + 1)],
         &w[l.neighbors..l.neighbors + l.entries],
-        &w[l.weights..l.weights + n],
-        &w[l.owners..l.owners + n],
         &w[room.links..room.links + n],
-        w[room.loads + r],
-        cap,
         from,
     )
 }
@@ -239,16 +236,8 @@ fn open_from(w: &[u32], room: GrowthRoom, cap: u64, r: usize, from: usize) -> us
     requires { GrowthReady room w.now × (r < room.ranks) × (from ≤ room.level.vertices) }
     ensures { FirstOpen (open_now cap room w.now r) (order_in room w.now) from result }
 {
-    let l = room.level;
-    let n = l.vertices;
-    first_open(
-        &w[room.order..room.order + n],
-        &w[l.weights..l.weights + n],
-        &w[l.owners..l.owners + n],
-        w[room.loads + r],
-        cap,
-        from,
-    )
+    let order = &w[room.order..room.order + room.level.vertices];
+    claimant_at(w, room, cap, r).first_open(order, from)
 }
 
 // The group that rank r would restart from. The search begins at the rank's cursor in the order, and takes it along.

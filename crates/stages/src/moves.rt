@@ -20,6 +20,14 @@ pub struct Offer {
     pub rank: usize,
 }
 
+// Where the moves of a level lie in the work slice: the level; from scratch on, the ranks' loads, then their tallies; and what a load is held to.
+#[derive(Clone, Copy)]
+pub struct MoveRoom {
+    pub level: HierarchyLevel,
+    pub scratch: usize,
+    pub limits: Limits,
+}
+
 // Where the row of v starts among the neighbors; the row of v + 1 starts where it ends.
 pub fn row_start(work: &[u32], l: HierarchyLevel, v: usize) -> usize
     requires { Ready work.now l (length work.now) × (v ≤ l.vertices) }
@@ -115,15 +123,16 @@ fn tempts(cap: u64, weight: u32, load: u32, home: usize, rank: usize) -> bool
 }
 
 // Whether v has a neighbor of another rank that has room for it. If not, it has no target, and nothing need be counted.
-fn tempted(work: &[u32], l: HierarchyLevel, scratch: usize, limits: Limits, v: usize) -> bool
-    requires { Weighed work.now l scratch limits.ranks × (v < l.vertices) }
-    ensures { result ≡ tempting (balance_in limits) (rows_at work.now l) (weights_at work.now l) (owners_at work.now l) v }
+fn tempted(work: &[u32], s: MoveRoom, v: usize) -> bool
+    requires { Weighed work.now s.level s.scratch s.limits.ranks × (v < s.level.vertices) }
+    ensures { result ≡ tempting (balance_in s.limits) (rows_at work.now s.level) (weights_at work.now s.level)
+        (owners_at work.now s.level) v }
 {
-    let weight = weight_in(work, l, v);
-    let home = owner_in(work, l, v);
-    for u in l.row(work, v) {
-        let r = owner_in(work, l, *u as usize);
-        if tempts(limits.cap, weight, work[scratch + r], home, r) {
+    let weight = weight_in(work, s.level, v);
+    let home = owner_in(work, s.level, v);
+    for u in s.level.row(work, v) {
+        let r = owner_in(work, s.level, *u as usize);
+        if tempts(s.limits.cap, weight, work[s.scratch + r], home, r) {
             return true;
         }
     }
@@ -145,22 +154,15 @@ fn offer_of(cap: u64, weight: u32, load: u32, there: u32, home: u32, rank: usize
 }
 
 // What a rank offers by its load from scratch on and the tally behind the loads.
-fn offer_at(
-    work: &[u32],
-    scratch: usize,
-    limits: Limits,
-    weight: u32,
-    home: u32,
-    rank: usize,
-) -> Option<Offer>
-    requires { (scratch + 2 * limits.ranks ≤ length work.now) × (rank < limits.ranks) }
-    ensures { result ≡ rank_offer work.now scratch limits weight home rank }
+fn offer_at(work: &[u32], s: MoveRoom, weight: u32, home: u32, rank: usize) -> Option<Offer>
+    requires { (s.scratch + 2 * s.limits.ranks ≤ length work.now) × (rank < s.limits.ranks) }
+    ensures { result ≡ rank_offer work.now s.scratch s.limits weight home rank }
 {
-    let tallies = scratch + limits.ranks;
+    let tallies = s.scratch + s.limits.ranks;
     offer_of(
-        limits.cap,
+        s.limits.cap,
         weight,
-        work[scratch + rank],
+        work[s.scratch + rank],
         work[tallies + rank],
         home,
         rank,
@@ -186,65 +188,51 @@ fn better(x: Option<Offer>, y: Option<Offer>) -> Option<Offer>
 }
 
 // The best of what all ranks offer a vertex, by their loads from scratch on and its tallies behind them.
-fn best_of_ranks(
-    work: &[u32],
-    scratch: usize,
-    limits: Limits,
-    weight: u32,
-    home: u32,
-) -> Option<Offer>
-    requires { scratch + 2 * limits.ranks ≤ length work.now }
-    ensures { result ≡ best_rank work.now scratch limits weight home limits.ranks }
+fn best_of_ranks(work: &[u32], s: MoveRoom, weight: u32, home: u32) -> Option<Offer>
+    requires { s.scratch + 2 * s.limits.ranks ≤ length work.now }
+    ensures { result ≡ best_rank work.now s.scratch s.limits weight home s.limits.ranks }
 {
     let mut best = None;
-    for r in 0..limits.ranks {
-        best = better(best, offer_at(work, scratch, limits, weight, home, r));
+    for r in 0..s.limits.ranks {
+        best = better(best, offer_at(work, s, weight, home, r));
     }
     best
 }
 
 // The best of what the owners of v's neighbors offer it.
-fn best_of_neighbors(
-    work: &[u32],
-    l: HierarchyLevel,
-    scratch: usize,
-    limits: Limits,
-    v: usize,
-) -> Option<Offer>
-    requires { Weighed work.now l scratch limits.ranks × (v < l.vertices) × Tallied work.now l (scratch + limits.ranks) limits.ranks v }
-    ensures { offered result ≡ target (balance_in limits) (rows_at work.now l) (weights_at work.now l) (owners_at work.now l) v }
+fn best_of_neighbors(work: &[u32], s: MoveRoom, v: usize) -> Option<Offer>
+    requires { Weighed work.now s.level s.scratch s.limits.ranks × (v < s.level.vertices)
+        × Tallied work.now s.level (s.scratch + s.limits.ranks) s.limits.ranks v }
+    ensures { offered result
+        ≡ target (balance_in s.limits) (rows_at work.now s.level) (weights_at work.now s.level) (owners_at work.now s.level) v }
 {
-    let tallies = scratch + limits.ranks;
-    let weight = weight_in(work, l, v);
-    let mine = owner_in(work, l, v);
+    let tallies = s.scratch + s.limits.ranks;
+    let weight = weight_in(work, s.level, v);
+    let mine = owner_in(work, s.level, v);
     let home = work[tallies + mine];
     let mut best = None;
-    for u in l.row(work, v) {
-        let r = owner_in(work, l, *u as usize);
-        best = better(best, offer_at(work, scratch, limits, weight, home, r));
+    for u in s.level.row(work, v) {
+        let r = owner_in(work, s.level, *u as usize);
+        best = better(best, offer_at(work, s, weight, home, r));
     }
     best
 }
 
 // The best offer for v, found along its row or along the ranks, whichever is shorter.
-fn best_offer(
-    work: &[u32],
-    l: HierarchyLevel,
-    scratch: usize,
-    limits: Limits,
-    v: usize,
-) -> Option<Offer>
-    requires { Weighed work.now l scratch limits.ranks × (v < l.vertices) × Tallied work.now l (scratch + limits.ranks) limits.ranks v }
-    ensures { offered result ≡ target (balance_in limits) (rows_at work.now l) (weights_at work.now l) (owners_at work.now l) v }
+fn best_offer(work: &[u32], s: MoveRoom, v: usize) -> Option<Offer>
+    requires { Weighed work.now s.level s.scratch s.limits.ranks × (v < s.level.vertices)
+        × Tallied work.now s.level (s.scratch + s.limits.ranks) s.limits.ranks v }
+    ensures { offered result
+        ≡ target (balance_in s.limits) (rows_at work.now s.level) (weights_at work.now s.level) (owners_at work.now s.level) v }
 {
-    if limits.ranks < l.degree(work, v) {
-        let tallies = scratch + limits.ranks;
-        let weight = weight_in(work, l, v);
-        let mine = owner_in(work, l, v);
+    if s.limits.ranks < s.level.degree(work, v) {
+        let tallies = s.scratch + s.limits.ranks;
+        let weight = weight_in(work, s.level, v);
+        let mine = owner_in(work, s.level, v);
         let home = work[tallies + mine];
-        return best_of_ranks(work, scratch, limits, weight, home);
+        return best_of_ranks(work, s, weight, home);
     }
-    best_of_neighbors(work, l, scratch, limits, v)
+    best_of_neighbors(work, s, v)
 }
 
 // Whether a load less a weight is at least the floor.
@@ -257,60 +245,58 @@ fn keeps_floor(floor: u64, load: u32, weight: u32) -> bool
 
 // Whether v may leave its rank.
 #[tactic(auto, unfolding(crate::specs::Moves::may_leave))]
-fn may_leave(work: &[u32], l: HierarchyLevel, scratch: usize, limits: Limits, v: usize) -> bool
-    requires { Weighed work.now l scratch limits.ranks × (v < l.vertices) }
-    ensures { result ≡ may_leave (balance_in limits) (rows_at work.now l) (weights_at work.now l) (owners_at work.now l) v }
+fn may_leave(work: &[u32], s: MoveRoom, v: usize) -> bool
+    requires { Weighed work.now s.level s.scratch s.limits.ranks × (v < s.level.vertices) }
+    ensures { result ≡ may_leave (balance_in s.limits) (rows_at work.now s.level) (weights_at work.now s.level)
+        (owners_at work.now s.level) v }
 {
-    let home = owner_in(work, l, v);
-    let weight = weight_in(work, l, v);
-    keeps_floor(limits.floor, work[scratch + home], weight)
+    let home = owner_in(work, s.level, v);
+    let weight = weight_in(work, s.level, v);
+    keeps_floor(s.limits.floor, work[s.scratch + home], weight)
 }
 
 // The offer that v takes, if any. The tallies are 0 before and after.
-fn choose(
-    work: &mut [u32],
-    l: HierarchyLevel,
-    scratch: usize,
-    limits: Limits,
-    v: usize,
-) -> Option<Offer>
-    requires { Moving work.old l scratch limits.ranks × (v < l.vertices) }
-    ensures { (offered result ≡ target (balance_in limits) (rows_at work.old l) (weights_at work.old l) (owners_at work.old l) v) × (work.new ≡ work.old) }
+fn choose(work: &mut [u32], s: MoveRoom, v: usize) -> Option<Offer>
+    requires { Moving work.old s.level s.scratch s.limits.ranks × (v < s.level.vertices) }
+    ensures { (offered result
+        ≡ target (balance_in s.limits) (rows_at work.old s.level) (weights_at work.old s.level) (owners_at work.old s.level) v)
+        × (work.new ≡ work.old) }
 {
-    if !tempted(work, l, scratch, limits, v) {
+    if !tempted(work, s, v) {
         return None;
     }
-    let tallies = scratch + limits.ranks;
-    tally(work, l, tallies, limits.ranks, v);
-    let best = best_offer(work, l, scratch, limits, v);
-    clear_tallies(work, l, tallies, limits.ranks, v);
+    let tallies = s.scratch + s.limits.ranks;
+    tally(work, s.level, tallies, s.limits.ranks, v);
+    let best = best_offer(work, s, v);
+    clear_tallies(work, s.level, tallies, s.limits.ranks, v);
     best
 }
 
 // v goes over to a rank.
-fn shift(work: &mut [u32], l: HierarchyLevel, scratch: usize, ranks: usize, v: usize, rank: usize)
-    requires { Weighed work.old l scratch ranks × (v < l.vertices) × (rank < ranks) }
-    ensures { Shifted work.old work.new l scratch ranks v rank }
+fn shift(work: &mut [u32], s: MoveRoom, v: usize, rank: usize)
+    requires { Weighed work.old s.level s.scratch s.limits.ranks × (v < s.level.vertices) × (rank < s.limits.ranks) }
+    ensures { Shifted work.old work.new s.level s.scratch s.limits.ranks v rank }
 {
-    let home = owner_in(work, l, v);
-    let weight = weight_in(work, l, v);
-    work[scratch + home] -= weight;
-    work[scratch + rank] += weight;
-    work[l.owners + v] = rank as u32;
+    let home = owner_in(work, s.level, v);
+    let weight = weight_in(work, s.level, v);
+    work[s.scratch + home] -= weight;
+    work[s.scratch + rank] += weight;
+    work[s.level.owners + v] = rank as u32;
 }
 
 // v's turn: the number of moves, 1 or 0.
-fn visit(work: &mut [u32], l: HierarchyLevel, scratch: usize, limits: Limits, v: usize) -> u64
-    requires { Moving work.old l scratch limits.ranks × (v < l.vertices) }
-    ensures { Stepped work.old work.new l scratch limits.ranks
-        (move_pass (balance_in limits) (rows_at work.old l) (weights_at work.old l) (v ∷ []) (owners_at work.old l)) result }
+fn visit(work: &mut [u32], s: MoveRoom, v: usize) -> u64
+    requires { Moving work.old s.level s.scratch s.limits.ranks × (v < s.level.vertices) }
+    ensures { Stepped work.old work.new s.level s.scratch s.limits.ranks
+        (move_pass (balance_in s.limits) (rows_at work.old s.level) (weights_at work.old s.level) (v ∷ [])
+        (owners_at work.old s.level)) result }
 {
-    if !may_leave(work, l, scratch, limits, v) {
+    if !may_leave(work, s, v) {
         return 0;
     }
-    match choose(work, l, scratch, limits, v) {
+    match choose(work, s, v) {
         Some(best) => {
-            shift(work, l, scratch, limits.ranks, v, best.rank);
+            shift(work, s, v, best.rank);
             1
         }
         None => 0,
@@ -318,33 +304,28 @@ fn visit(work: &mut [u32], l: HierarchyLevel, scratch: usize, limits: Limits, v:
 }
 
 // A pass over all vertices by number: the number of moves.
-fn pass(work: &mut [u32], l: HierarchyLevel, scratch: usize, limits: Limits) -> u64
-    requires { Moving work.old l scratch limits.ranks }
-    ensures { Stepped work.old work.new l scratch limits.ranks
-        (move_pass (balance_in limits) (rows_at work.old l) (weights_at work.old l) (vertices (rows_at work.old l)) (owners_at work.old l)) result }
+fn pass(work: &mut [u32], s: MoveRoom) -> u64
+    requires { Moving work.old s.level s.scratch s.limits.ranks }
+    ensures { Stepped work.old work.new s.level s.scratch s.limits.ranks
+        (move_pass (balance_in s.limits) (rows_at work.old s.level) (weights_at work.old s.level) (vertices (rows_at work.old s.level))
+        (owners_at work.old s.level)) result }
 {
     let mut moved = 0;
-    for v in 0..l.vertices {
-        moved += visit(work, l, scratch, limits, v);
+    for v in 0..s.level.vertices {
+        moved += visit(work, s, v);
     }
     moved
 }
 
 // Up to so many passes, ending after one without a move: the number of moves.
-fn all_passes(
-    work: &mut [u32],
-    l: HierarchyLevel,
-    scratch: usize,
-    limits: Limits,
-    passes: u64,
-) -> u64
-    requires { Moving work.old l scratch limits.ranks }
-    ensures { Stepped work.old work.new l scratch limits.ranks
-        (moves_at work.old l limits passes) result }
+fn all_passes(work: &mut [u32], s: MoveRoom, passes: u64) -> u64
+    requires { Moving work.old s.level s.scratch s.limits.ranks }
+    ensures { Stepped work.old work.new s.level s.scratch s.limits.ranks
+        (moves_at work.old s.level s.limits passes) result }
 {
     let mut total = 0;
     for _ in 0..passes {
-        let moved = pass(work, l, scratch, limits);
+        let moved = pass(work, s);
         if moved == 0 {
             break;
         }
@@ -374,9 +355,14 @@ pub fn refine_by_cut(
     requires { Refinable work.old l scratch limits.ranks }
     ensures { RefinedByCut work.old work.new l scratch limits passes result }
 {
+    let s = MoveRoom {
+        level: l,
+        scratch,
+        limits,
+    };
     clear(work, scratch, 2 * limits.ranks);
     weigh(work, l, scratch, limits.ranks);
-    let moves = all_passes(work, l, scratch, limits, passes);
+    let moves = all_passes(work, s, passes);
     check_owners(work, l, limits.ranks)?;
     Ok(moves)
 }

@@ -4,4 +4,4 @@ use Rattle.multilevel.proofs.MeasureLaws.{Meeting}
 use Rattle.multilevel.proofs.measure.meet_row.Given as goal
 
 abbrev pub invariant-loop-i : goal.invariant-loop-i
-invariant-loop-i l = Meeting l.initial.work l.own l.seen l.ranks l.a l.e l.home l.mark l.work l.x (l.i - l.a)
+invariant-loop-i l = Meeting l.initial.work l.by.own l.by.seen l.by.ranks l.a l.e l.by.home l.by.mark l.work l.x (l.i - l.a)

@@ -7,9 +7,12 @@ pub first_open-requires : goal.first_open-requires
 first_open-requires c =
     let a = c.args in
     let p = c.requires in
-    (order-groups a.cap a.r p.0 p.1, omega (arith, order-inside a.cap a.r p.0 p.1, p.2))
+    let k = c.claimant_at.ensures in
+    rw (k.weights, k.owners) (order-groups a.cap a.r p.0 p.1, omega (arith, order-inside a.cap a.r p.0 p.1, p.2))
 
 pub returns : goal.returns
 returns c =
     let a = c.args in
-    open-post c.requires.0 a.r c.requires.1 a.cap a.from c.first_open.result c.first_open.ensures
+    let k = c.claimant_at.ensures in
+    open-post c.requires.0 a.r c.requires.1 a.cap a.from c.first_open.result
+    (rw (k.weights, k.owners, k.load, k.cap) at c.first_open.ensures)

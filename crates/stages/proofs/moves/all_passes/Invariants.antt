@@ -3,4 +3,4 @@ use Rattle.stages.proofs.MovesPassLaws.{Repeating}
 use Rattle.stages.proofs.moves.all_passes.Given as goal
 
 abbrev pub invariant-loop : goal.invariant-loop
-invariant-loop l = Repeating l.initial.work l.work l.l l.scratch l.limits l.passes l.total l.counter
+invariant-loop l = Repeating l.initial.work l.work l.s.level l.s.scratch l.s.limits l.passes l.total l.counter

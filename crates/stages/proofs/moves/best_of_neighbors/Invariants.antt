@@ -4,4 +4,4 @@ use Rattle.stages.proofs.MovesTurnLaws.{best_to}
 use Rattle.stages.proofs.moves.best_of_neighbors.Given as goal
 
 abbrev pub invariant-loop-u : goal.invariant-loop-u
-invariant-loop-u l = l.best ≡ best_to l.work l.l l.limits l.v l.u-index
+invariant-loop-u l = l.best ≡ best_to l.work l.s.level l.s.limits l.v l.u-index

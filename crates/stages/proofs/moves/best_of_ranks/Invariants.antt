@@ -4,4 +4,4 @@ use Rattle.stages.specs.MovesCode.{best_rank}
 use Rattle.stages.proofs.moves.best_of_ranks.Given as goal
 
 abbrev pub invariant-loop-r : goal.invariant-loop-r
-invariant-loop-r l = l.best ≡ best_rank l.work l.scratch l.limits l.weight l.home l.r
+invariant-loop-r l = l.best ≡ best_rank l.work l.s.scratch l.s.limits l.weight l.home l.r

@@ -19,13 +19,13 @@ pub returns : goal.returns
 returns c =
     let t = c.tally.ensures in
     let u = c.clear_tallies.ensures in (
-      target-kept c.requires.0.weighed t.1 c.args.limits c.args.v _ c.best_offer-best.ensures,
-      cleared-again c.args.work.now _ _ (c.args.scratch + c.args.limits.ranks) c.args.limits.ranks c.requires.0.clear t.1 u.0
+      target-kept c.requires.0.weighed t.1 c.args.s.limits c.args.v _ c.best_offer-best.ensures,
+      cleared-again c.args.work.now _ _ (c.args.s.scratch + c.args.s.limits.ranks) c.args.s.limits.ranks c.requires.0.clear t.1 u.0
           u.1,
     )
 
 pub returns-then-not-tempted : goal.returns-then-not-tempted
 returns-then-not-tempted c =
-    let s = c.args in
-    let w = s.work.now in
-    (no-offer s.limits (rows_at w s.l) (weights_at w s.l) (owners_at w s.l) s.v c.tempted.result c.tempted.ensures c.if-not-tempted.true, refl)
+    let a = c.args in
+    let w = a.work.now in
+    (no-offer a.s.limits (rows_at w a.s.level) (weights_at w a.s.level) (owners_at w a.s.level) a.v c.tempted.result c.tempted.ensures c.if-not-tempted.true, refl)

@@ -4,4 +4,4 @@ use Rattle.stages.proofs.MovesTurnLaws.{tempted_from, tempted_at}
 use Rattle.stages.proofs.moves.tempted.Given as goal
 
 abbrev pub invariant-loop-u : goal.invariant-loop-u
-invariant-loop-u l = tempted_from l.work l.l l.limits l.v l.u-index ≡ tempted_at l.work l.l l.limits l.v
+invariant-loop-u l = tempted_from l.work l.s.level l.s.limits l.v l.u-index ≡ tempted_at l.work l.s.level l.s.limits l.v

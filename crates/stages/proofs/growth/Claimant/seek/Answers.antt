@@ -3,7 +3,7 @@ use mathlib.Core.Path.{sym, ◌∙◌}
 use Rattle.links.specs.Graph.{rows_of, vertex_count}
 use Rattle.stages.specs.FrontierCode.{opens}
 use Rattle.stages.proofs.ChainLaws.{going-on, head_in, left-some}
-use Rattle.stages.proofs.growth.seek.Goals as goal
+use Rattle.stages.proofs.growth.Claimant.seek.Goals as goal
 
 pub stops-requires : goal.stops-requires
 stops-requires c =
@@ -16,7 +16,7 @@ onward-here-requires c =
     let a = c.args in
     let h = c.loop-here.here in
     let some : 0 < h.count =
-    left-some (rows_of a.offsets.now a.neighbors.now) (opens a.cap a.weights.now a.owners.now a.load) h.head h.place h.count
+    left-some (rows_of a.offsets.now a.neighbors.now) (opens a.self.cap a.self.weights.now a.self.owners.now a.self.load) h.head h.place h.count
     (sym c.stops.ensures ∙ c.loop-here-test.true) in
     (c.requires.0.lists, c.requires.1, head_in a.links.now (vertex_count a.offsets.now) h.head h.count c.loop-here.invariant.inside some, some)
 
@@ -25,7 +25,7 @@ loop-here-smaller c =
     let a = c.args in
     let h = c.loop-here.here in
     let r = c.onward-here.result in
-    (going-on (rows_of a.offsets.now a.neighbors.now) a.links.now (opens a.cap a.weights.now a.owners.now a.load)
+    (going-on (rows_of a.offsets.now a.neighbors.now) a.links.now (opens a.self.cap a.self.weights.now a.self.owners.now a.self.load)
     (vertex_count a.offsets.now) a.from.head a.from.place a.from.count
     h.head h.place h.count r.head r.place r.count c.loop-here.invariant
     (sym c.stops.ensures ∙ c.loop-here-test.true) c.onward-here.ensures).1
@@ -35,7 +35,7 @@ loop-here-preserved c =
     let a = c.args in
     let h = c.loop-here.here in
     let r = c.onward-here.result in
-    (going-on (rows_of a.offsets.now a.neighbors.now) a.links.now (opens a.cap a.weights.now a.owners.now a.load)
+    (going-on (rows_of a.offsets.now a.neighbors.now) a.links.now (opens a.self.cap a.self.weights.now a.self.owners.now a.self.load)
     (vertex_count a.offsets.now) a.from.head a.from.place a.from.count
     h.head h.place h.count r.head r.place r.count c.loop-here.invariant
     (sym c.stops.ensures ∙ c.loop-here-test.true) c.onward-here.ensures).0

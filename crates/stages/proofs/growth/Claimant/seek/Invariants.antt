@@ -3,11 +3,11 @@ use Prim.Native.Nat.{◌+◌}
 use lib.ListN.{length}
 use Rattle.links.specs.Graph.{rows_of, vertex_count}
 use Rattle.stages.specs.FrontierCode.{opens, front, Going}
-use Rattle.stages.proofs.growth.seek.Given as goal
+use Rattle.stages.proofs.growth.Claimant.seek.Given as goal
 
 abbrev pub invariant-loop-here : goal.invariant-loop-here
 invariant-loop-here l =
-    Going (rows_of l.offsets l.neighbors) l.links (opens l.cap l.weights l.owners l.load) (vertex_count l.offsets) l.fn.from.head l.fn.from.place l.fn.from.count l.here.head l.here.place l.here.count
+    Going (rows_of l.offsets l.neighbors) l.links (opens l.self.cap l.self.weights.now l.self.owners.now l.self.load) (vertex_count l.offsets) l.fn.from.head l.fn.from.place l.fn.from.count l.here.head l.here.place l.here.count
 
 abbrev pub decreases-loop-here : goal.decreases-loop-here
 decreases-loop-here l =
