@@ -30,7 +30,7 @@ pub extern "C" fn bridge_minimum_load(total: u64, ranks: u32, imbalance_per_mill
     links::minimum_load(total, ranks, imbalance_per_mille)
 }
 
-// The options of six numbers, in their order.
+// The options of six numbers, in their order. No `From`, since both types are other crates'; so with the two below.
 fn options_of(numbers: &[u64; 6]) -> AbtmMultilevelOptions
     ensures { result ≡ options_from numbers.now }
 {

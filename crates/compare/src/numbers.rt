@@ -7,7 +7,7 @@ ghost use Rattle.compare.specs.OrderCode.{number_in, is_new};
 
 use crate::order::{Order, lesser_first};
 
-// The number of a rank that has none.
+// The number of a rank that has none. It is no vertex or rank of a level, as that of stages, over which this crate does not stand.
 const UNASSIGNED: u32 = u32::MAX;
 
 // Gives a rank without a number the next one; how many have one then.
@@ -37,7 +37,7 @@ fn numbers_of(owners: &[u32]) -> [u32; 256]
 }
 
 // A rank's number.
-fn number_of(numbers: &[u32; 256], rank: u32) -> u64
+fn number_in(numbers: &[u32; 256], rank: u32) -> u64
     requires { rank < 256 }
     ensures { result ≡ at numbers.now rank }
 {
@@ -50,7 +50,7 @@ fn by_numbers(first: &[u32], second: &[u32], one: &[u32; 256], other: &[u32; 256
     ensures { result ≡ by_numbers (map (at one.now) first.now) (map (at other.now) second.now) }
 {
     for (v, rank) in first.iter().enumerate() {
-        let order = lesser_first(number_of(one, *rank), number_of(other, second[v]));
+        let order = lesser_first(number_in(one, *rank), number_in(other, second[v]));
         if order != Order::Same {
             return order;
         }

@@ -14,7 +14,7 @@ pub enum Order {
 }
 
 impl Order {
-    // 0 for the same, 1 or 2 for the one that comes first.
+    // The number that an export gives: 0 for the same, 1 or 2 for the one that comes first.
     // Rules out: 1 and 2 in each other's place; 1 for the same.
     pub fn code(self) -> u32
         ensures { result ≡ order_code (Some self) }

@@ -15,7 +15,7 @@ use links::Refusal;
 // The claims of a round after which growth is stuck.
 const NO_CLAIMS: u64 = 0;
 
-// How many neighbors v has.
+// How many neighbors v has, in lists cut from the slice, where no level is at hand.
 fn degree_of(offsets: &[u32], neighbors: &[u32], v: u32) -> u32
     requires { SoundLists offsets.now neighbors.now × (v < vertex_count offsets.now) }
     ensures { result ≡ degree (rows_of offsets.now neighbors.now) v }

@@ -284,7 +284,7 @@ fn shift(work: &mut [u32], s: MoveRoom, v: usize, rank: usize)
     work[s.level.owners + v] = rank as u32;
 }
 
-// v's turn: the number of moves, 1 or 0.
+// v's turn: the number of moves, 1 or 0, which a pass adds up.
 fn visit(work: &mut [u32], s: MoveRoom, v: usize) -> u64
     requires { Moving work.old s.level s.scratch s.limits.ranks × (v < s.level.vertices) }
     ensures { Stepped work.old work.new s.level s.scratch s.limits.ranks

@@ -306,7 +306,7 @@ fn swap(work: &mut [u32], s: SwapRoom, u: usize, v: usize)
     trade(work, s.loads, a, b, x, y);
 }
 
-// A proposal's turn: 1 if the swap was made.
+// A proposal's turn: the number of swaps, 1 or 0, which a pass adds up.
 fn try_swap(work: &mut [u32], s: SwapRoom, u: usize, v: usize) -> u32
     requires { Standing work.old s × (u < s.level.vertices) × (v < s.level.vertices) }
     ensures { (result ≤ 1) × ((g : ℕ) → Taken work.old work.new s result (proposal g u v ∷ [])) }

@@ -47,7 +47,7 @@ pub(crate) fn count_days(windows: &[u32]) -> u64
     count
 }
 
-// The day at place j of the windows, from 0; 0 past the last.
+// The day at place j of the windows, from 0; 0 past the last, as in every list of the definitions.
 pub(crate) fn day_at(windows: &[u32], j: u64) -> u32
     ensures { result ≡ at (spanned (windows_in windows.now)) j }
 {

@@ -14,7 +14,7 @@ pub returns-then-ne : goal.returns-then-ne
 returns-then-ne c =
     let a = c.args in
     let key : c.lesser_first-order.result ≡ lesser_first (at a.one.now (at a.first.now c.loop-v.v)) (at a.other.now (at a.second.now c.loop-v.v)) =
-    c.lesser_first-order.ensures ∙ rw (c.number_of.ensures, c.number_of-in-loop-v.ensures) in
+    c.lesser_first-order.ensures ∙ rw (c.number_in.ensures, c.number_in-in-loop-v.ensures) in
     let other : is_same c.lesser_first-order.result ≡ false = search rules in
     by-decided (at a.one.now) (at a.other.now) a.first.now a.second.now _ c.loop-v.v c.loop-v.invariant c.loop-v-test.true c.requires.2 _ key other
 
@@ -22,6 +22,6 @@ pub loop-v-preserved : goal.loop-v-preserved
 loop-v-preserved c =
     let a = c.args in
     let key : c.lesser_first-order.result ≡ lesser_first (at a.one.now (at a.first.now c.loop-v.v)) (at a.other.now (at a.second.now c.loop-v.v)) =
-    c.lesser_first-order.ensures ∙ rw (c.number_of.ensures, c.number_of-in-loop-v.ensures) in
+    c.lesser_first-order.ensures ∙ rw (c.number_in.ensures, c.number_in-in-loop-v.ensures) in
     let same : c.lesser_first-order.result ≡ Same = search rules in
     by-more (at a.one.now) (at a.other.now) a.first.now a.second.now _ c.loop-v.v c.loop-v.invariant c.loop-v-test.true c.requires.2 _ key same
