@@ -5,19 +5,18 @@ use mathlib.Core.Bool.{Bool, true, false, ◌||◌, cond}
 use mathlib.Core.List.{List, [], ◌∷◌}
 use native.Mathlib.Omega.{arith}
 use native.Mathlib.Numerals.{add-one}
-use lib.ListN.{length, take, drop, set, replicate, length-take, get_or-eq_default}
-use lib.Seq.{take_all, take-suc, take-length, take-add}
+use lib.ListN.{length, take, drop, set, replicate, length-set, length-take, length-replicate, get_or-replicate, get_or-eq_default}
+use lib.Seq.{take-suc, take-length, take-add, get_or-set_same, get_or-set_other}
 use lib.Dec.{leb, ltb, eqb}
-use borrow.Author.Tests.{eq-eqb, ne_eqb, ltb-true, ltb-false, leb-true, leb-false, eqb-false}
-use Rattle.links.specs.Lists.{at, unassigned, any, range, All}
+use borrow.Author.Tests.{eq-eqb, ne_eqb, ltb-true, ltb-false, leb-false, eqb-true, eqb-false}
+use Rattle.links.specs.Lists.{at, unassigned, any, elem, range, All}
 use Rattle.links.specs.Parts.{table}
 use Rattle.links.specs.Graph.{owned}
-use Rattle.links.specs.Owners.{bad_ranks, too_many, counts_cause, stray_owner, empty_rank, from_owners}
-use Rattle.links.proofs.ListLaws.{split, or_l, or_r, or-true, tally, count, count-cons, count-length, count-append, count-all, count-apart, all-to, to-all, any_none, total, counted-below, counted, all-get_or}
+use Rattle.links.specs.Owners.{bad_ranks, too_many, counts_cause, stray_owner, empty_rank, from_owners, Marked}
+use Rattle.links.proofs.ListLaws.{split, or_l, or_r, or-true, or-false, tally, count, count-cons, count-length, count-append, count-all, count-apart, all-to, to-all, any-ext, any_none, total, counted-below, counted, count-drop, none-counts, all-get_or, elem-take}
 use Rattle.links.proofs.RangeLaws.{none_passes, range_snoc}
 use Rattle.links.proofs.ChainLaws.{any-chain}
 use Rattle.std.specs.List.{list_any}
-use Rattle.std.proofs.lemmas.List.{take-append-le}
 use Rattle.std.proofs.lemmas.List.Folds.{list_any-append}
 use Rattle.std.specs.Prelude.{Result, Ok, Err}
 use Rattle.links.specs.Refusals.{number_of}
@@ -26,6 +25,10 @@ use Rattle.links.proofs.RefusalLaws.{refusal-some}
 use Rattle.links.proofs.PartLaws.{length-table, get_or-table, table-zero, table-add}
 
 module _ (owners : List ℕ) (i : ℕ) (h : i < length owners) where
+  pub owned-drop : (r : ℕ) → owned (drop i owners) r ≡ tally (eqb r (at owners i)) + owned (drop (i + 1) owners) r
+  unfolding owned
+  owned-drop r = count-drop owners i 0 h (eqb r)
+
   pub owned-take : (r : ℕ) → owned (take (i + 1) owners) r ≡ owned (take i owners) r + tally (eqb r (at owners i))
   unfolding owned
   owned-take r = rw (add-one, take-suc owners i 0 h) (count-append (eqb r) (take i owners) (at owners i ∷ []) ∙ omega (arith, count-cons (eqb r) (at owners i) []))
@@ -35,28 +38,48 @@ pub all-below : (k : ℕ) (owners : List ℕ) → stray_owner k owners ≡ false
 unfolding stray_owner
 all-below k owners e i h = leb-false k (at owners i) (all-get_or owners i 0 h (λ x. leb k x ≡ false) (any_none (leb k) owners e))
 
--- ---- the first k of a table of n
+pub marked-none : (marks : List ℕ) → Marked [] marks marks
+marked-none marks = record { same_length = refl; entries = λ r h. refl }
 
-take-table : (f : ℕ → ℕ) (n k : ℕ) → k ≤ n → take k (table f n) ≡ table f k
-take-table f zero k h = let e : k ≡ 0 = omega arith in rw e
-take-table f (suc n) k h = split (leb k n)
-    (λ p. let l : k ≤ n = leb-true k n p in take-append-le k (table f n) (f n ∷ []) (rw (length-table f n) l) ∙ take-table f n k l)
-    (λ p. let e : k ≡ suc n = omega (arith, leb-false k n p) in rw e (take_all (suc n) (table f (suc n)) (rw (length-table f (suc n)) (omega arith))))
+pub marked_more : (marks' marks owners : List ℕ) (i : ℕ) → i < length owners → at owners i < length marks → Marked (take i owners) marks' marks
+    → Marked (take (i + 1) owners) (set marks' (at owners i) 1) marks
+marked_more marks' marks owners i h b m =
+    record {
+      same_length = length-set marks' (at owners i) 1 ∙ m.same_length;
+      entries = λ r l. rw (elem-take r owners i h) (split (eqb r (at owners i))
+          (λ p. let e = eqb-true r (at owners i) p in let g = m.same_length in
+          simp (p, or-true) (rw e (get_or-set_same marks' (at owners i) 1 0 (omega arith))))
+          (λ p. rw (p, get_or-set_other marks' (at owners i) r 1 0 (eqb-false r (at owners i) p)) (simp or-false (m.entries r l))));
+    }
 
-any-table : (p : ℕ → Bool) (f : ℕ → ℕ) (k : ℕ) → list_any p (table f k) ≡ list_any (λ r. p (f r)) (range 0 k)
-any-table p f zero = refl
-any-table p f (suc k) =
-    list_any-append p (table f k) (f k ∷ [])
-    ∙ ap (λ b. b || (p (f k) || false)) (any-table p f k)
-    ∙ sym (list_any-append (λ r. p (f r)) (range 0 k) (k ∷ []))
-    ∙ sym (ap (λ xs. list_any (λ r. p (f r)) xs) (range_snoc 0 k k (omega arith)))
+-- a rank is without a mark exactly when it owns nothing
+pub unmarked : (owners marks : List ℕ) (n : ℕ) → Marked owners marks (replicate n 0) → (r : ℕ) → r < n → eqb (at marks r) 0 ≡ eqb (owned owners r) 0
+unfolding owned
+unmarked owners marks n m r h =
+    let l : r < length {A = ℕ} (replicate n 0) = simp length-replicate h in
+    rw (m.entries r l, get_or-replicate, none-counts)
+    (split (elem r owners) (λ p. rw p) (λ p. rw p))
 
--- a rank without a vertex is a 0 among the first k counts
-pub empty-counts : (owners : List ℕ) (n k : ℕ) → k ≤ n → list_any (λ y. eqb y 0) (take k (table (owned owners) n)) ≡ empty_rank k owners
+-- a test of the first k numbers of a list, by place
+any-taken : (p : ℕ → Bool) (xs : List ℕ) (k : ℕ) → k ≤ length xs → list_any p (take k xs) ≡ list_any (λ r. p (at xs r)) (range 0 k)
+any-taken p xs zero h = refl
+any-taken p xs (suc k) h =
+    ap (list_any p) (take-suc xs k 0 h)
+    ∙ list_any-append p (take k xs) (at xs k ∷ [])
+    ∙ ap (λ b. b || (p (at xs k) || false)) (any-taken p xs k (omega arith))
+    ∙ sym (list_any-append (λ r. p (at xs r)) (range 0 k) (k ∷ []))
+    ∙ sym (ap (λ ys. list_any (λ r. p (at xs r)) ys) (range_snoc 0 k k (omega arith)))
+
+-- a rank without a vertex is a 0 among the first k marks
+pub unmarked-empty : (owners marks : List ℕ) (n k : ℕ) → Marked owners marks (replicate n 0) → k ≤ n
+    → list_any (λ y. eqb y 0) (take k marks) ≡ empty_rank k owners
 unfolding empty_rank
-empty-counts owners n k h = rw (take-table (owned owners) n k h, any-table (λ y. eqb y 0) (owned owners) k) (any-chain (λ r. eqb (owned owners r) 0) (range 0 k))
+unmarked-empty owners marks n k m h =
+    let l : length marks ≡ n = m.same_length ∙ length-replicate n 0 in
+    any-taken (λ y. eqb y 0) marks k (omega arith)
+    ∙ any-chain (λ r. eqb (at marks r) 0) (range 0 k)
+    ∙ any-ext (λ r. eqb (at marks r) 0) (λ r. eqb (owned owners r) 0) 0 k (λ r a b. unmarked owners marks n m r (omega arith))
 
--- the causes by their order: the numbers of ranks and owners first
 pub counts-refused : (k : ℕ) (owners : List ℕ) → (counts_cause k (length owners) ≡ 0 → ⊥) → counts_cause k (length owners) ≡ from_owners k owners
 unfolding from_owners counts_cause
 counts-refused k owners h =

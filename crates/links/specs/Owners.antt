@@ -1,6 +1,6 @@
 -- Rule 2: assignment. Of an answer stand here its number and its value in 01's terms. Assumes nothing.
-use Rattle.std.specs.Prelude.{ℕ, ◌≡◌, Bool, ◌||◌, cond, List, length, leb, ltb, eqb, Result, Ok, Err}
-use Rattle.links.specs.Lists.{at, unassigned, any, range}
+use Rattle.std.specs.Prelude.{ℕ, ◌<◌, ◌≡◌, Bool, ◌||◌, cond, List, length, leb, ltb, eqb, Result, Ok, Err}
+use Rattle.links.specs.Lists.{at, unassigned, any, elem, range}
 use Rattle.links.specs.Graph.{owned}
 use Rattle.links.specs.Refusals.{number_of}
 use Rattle.links.specs.declared.refusal.Refusal.{Refusal}
@@ -54,3 +54,8 @@ pub record CountTold (k : ℕ) (owners : List ℕ) (rank : ℕ) (r : Result ℕ 
   pub answer : r ≡ cond (ltb rank k) (Ok (owned owners rank)) (Err RankOutOfRange)
   pub number : number_of r ≡ count_cause k rank
   pub value : value_of r ≡ cond (ltb rank k) (owned owners rank) 0
+
+-- what marking a list's owners leaves: 1 at each of them, and elsewhere what stood there
+pub record Marked (owners marks' marks : List ℕ) : Type 0 where
+  pub same_length : length marks' ≡ length marks
+  pub entries : (r : ℕ) → r < length marks → at marks' r ≡ cond (elem r owners) 1 (at marks r)

@@ -10,9 +10,13 @@ use crate::parts::number_at;
 fn foreign(row: &[u32], owners: &[u32], home: u32) -> u64
     ensures { result ≡ foreign_in row.now owners.now home }
 {
-    row.iter()
-        .filter(|u| number_at(owners, **u as usize) != home)
-        .count() as u64
+    let mut x: u64 = 0;
+    for u in row {
+        if number_at(owners, *u as usize) != home {
+            x += 1;
+        }
+    }
+    x
 }
 
 // How many neighbor entries join two ranks: a cut link counts from both its ends.

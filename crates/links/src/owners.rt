@@ -1,10 +1,10 @@
 // Rule 2: assignment. An owner list is checked, and asked for an owner and for a count.
-ghost use Rattle.std.specs.Prelude.{◌≡◌, ◌+◌, ◌<◌, length, set};
+ghost use Rattle.std.specs.Prelude.{◌≡◌, ℕ, ◌+◌, ◌<◌, length, set};
 ghost use Rattle.links.specs.Lists.{at};
 ghost use Rattle.links.specs.Parts.{table};
 ghost use Rattle.links.specs.Graph.{owned};
 ghost use Rattle.links.specs.Refusals.{number_of};
-ghost use Rattle.links.specs.Owners.{counts_cause, stray_owner, from_owners, OwnerTold, CountTold};
+ghost use Rattle.links.specs.Owners.{counts_cause, stray_owner, from_owners, Marked, OwnerTold, CountTold};
 
 use crate::lists::any_from;
 use crate::refusal::Refusal;
@@ -33,7 +33,13 @@ pub fn owner_of(owners: &[u32], v: u64) -> Result<u32, Refusal>
 fn owned_by(owners: &[u32], rank: u32) -> u64
     ensures { result ≡ owned owners.now rank }
 {
-    owners.iter().filter(|owner| **owner == rank).count() as u64
+    let mut count: u64 = 0;
+    for owner in owners {
+        if *owner == rank {
+            count += 1;
+        }
+    }
+    count
 }
 
 // How many vertices the rank owns, or 12.
@@ -71,6 +77,16 @@ pub fn owned_counts(owners: &[u32]) -> [u64; 256]
     counts
 }
 
+// Marks each owner.
+fn mark_owners(owners: &[u32], marks: &mut [u8; 256])
+    requires { (length marks.old ≡ 256) × ((i : ℕ) → i < length owners.now → at owners.now i < 256) }
+    ensures { Marked owners.now marks.new marks.old }
+{
+    for owner in owners {
+        marks[*owner as usize] = 1;
+    }
+}
+
 // Whether an owner is not below the number of ranks.
 // Rules out: the last owner not looked at; an owner equal to the number of ranks let through.
 pub fn stray_owner(owners: &[u32], ranks: u32) -> bool
@@ -102,8 +118,9 @@ pub fn from_owners(ranks: u32, owners: &[u32]) -> Result<(), Refusal>
     if stray_owner(owners, ranks) {
         return Err(Refusal::RankOutOfRange);
     }
-    let counts = owned_counts(owners);
-    if counts[..ranks as usize].contains(&0) {
+    let mut marks = [0u8; 256];
+    mark_owners(owners, &mut marks);
+    if marks[..ranks as usize].contains(&0) {
         return Err(Refusal::EmptyRank);
     }
     Ok(())

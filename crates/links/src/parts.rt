@@ -33,7 +33,9 @@ pub fn copy_into(dst: &mut [u32], src: &[u32])
     ensures { dst.new ≡ copied dst.old src.now }
 {
     let n = src.len().min(dst.len());
-    dst[..n].copy_from_slice(&src[..n]);
+    for i in 0..n {
+        dst[i] = src[i];
+    }
 }
 
 // x in the place i of the part that begins at a; nothing past the end.
