@@ -1,5 +1,5 @@
 -- The laws of the descent, as `solve` meets them: with the positions that its calls gave. Assumes nothing.
-use Prim.Native.Nat.{ℕ, suc, ◌-◌, ◌≤◌, ◌<◌}
+use Prim.Native.Nat.{ℕ, suc, ◌+◌, ◌-◌, ◌≤◌, ◌<◌}
 use mathlib.Core.Path.{◌≡◌, sym, ◌∙◌}
 use mathlib.Core.List.{List}
 use native.Mathlib.Omega.{arith}
@@ -11,11 +11,22 @@ use Rattle.stages.specs.declared.coarsen.Smaller.{Smaller}
 use Rattle.std.specs.Prelude.{Result, Ok, Err, Option, Some, None}
 use Rattle.links.specs.declared.refusal.Refusal.{Refusal}
 use Rattle.multilevel.specs.declared.driver.Rules.{Rules}
-use Rattle.stages.specs.Level.{moved_up, resized}
+use Rattle.stages.specs.Level.{Laid, moved_up, resized}
 use Rattle.multilevel.specs.Room.{Stacked, TakenOver}
 use Rattle.multilevel.specs.DriverCode.{Placed, Refining, LevelRefined, LevelGrown, LevelSolved}
 use Rattle.multilevel.proofs.PlaceLaws.{placed-last}
 use Rattle.multilevel.proofs.DescentLaws.{answer-same, Fewer, answer-fewer, solved-small, solved-same, coarsenable, step_kept, step-placed, coarse-placed, solved-refused, stacked, refining, solved-finer}
+
+-- a level's own parts, up to its end
+pub laid-alone : {l : HierarchyLevel} {end : ℕ} → Laid l end → Laid l (l.owners + l.vertices)
+laid-alone a =
+    record {
+      offsets-in = a.offsets-in;
+      neighbors-in = a.neighbors-in;
+      weights-in = a.weights-in;
+      map-in = a.map-in;
+      owners-in = omega arith;
+    }
 
 module _ (w : List ℕ) (l : HierarchyLevel) (q : Rules) (left : ℕ) (p : Placed w l q left) (nz : left ≡ 0 → ⊥) where
   one_less : left ≡ suc (left - 1)

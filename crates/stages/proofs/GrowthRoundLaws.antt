@@ -145,12 +145,12 @@ module _ {l : GrowthRoom} {cap : ℕ} {w w' w₂ : List ℕ} {i c e : ℕ} {x : 
 -- ---- is a group left that nobody owns?
 
 module _ (owners : List ℕ) (left : ℕ) (e : left ≡ vacant_in owners) where
-  some_left : (left ≡ 0 → ⊥) → vacancy owners ≡ true
+  pub some_left : (left ≡ 0 → ⊥) → vacancy owners ≡ true
   some_left z = split (vacancy owners)
       (λ p. p)
       (λ p. absurd (z (eqb-true left 0 (ap (λ (x : ℕ). eqb x 0) e ∙ none_left (eqb unassigned) owners ∙ ap not p))))
 
-  none-vacant : left ≡ 0 → vacancy owners ≡ false
+  pub none-vacant : left ≡ 0 → vacancy owners ≡ false
   none-vacant z = split (vacancy owners)
       (λ p. absurd (omega (arith, e, z, any-counts (eqb unassigned) owners p)))
       (λ p. p)
@@ -174,7 +174,7 @@ module _ (l : GrowthRoom) (cap : ℕ) (w : List ℕ) where
   no v s st = next-no cap (rows_in l w) (weights_in l w) l.ranks s (ap vacancy (sym st.owners-are) ∙ v)
 
 module _ {l : GrowthRoom} {cap : ℕ} {w : List ℕ} where
-  more_yes : {w' : List ℕ} {c e : ℕ} → vacancy (memory_in l w).owners ≡ true → Rounded l cap w w' l.ranks c e → More l cap w w' c e
+  pub more_yes : {w' : List ℕ} {c e : ℕ} → vacancy (memory_in l w).owners ≡ true → Rounded l cap w w' l.ranks c e → More l cap w w' c e
   more_yes {w'} v b = record {
     outside = b.outside;
     ready = b.ready;
@@ -185,7 +185,7 @@ module _ {l : GrowthRoom} {cap : ℕ} {w : List ℕ} where
     few = b.few.1;
   }
 
-  more_no : GrowthReady l w → vacancy (memory_in l w).owners ≡ false → More l cap w w 0 0
+  pub more_no : GrowthReady l w → vacancy (memory_in l w).owners ≡ false → More l cap w w 0 0
   unfolding claim_count restart_count
   more_no d v = record {
     outside = outside_refl l w;
@@ -278,7 +278,7 @@ pub record GrownBy (l : GrowthRoom) (cap : ℕ) (w w' : List ℕ) (i e : ℕ) : 
   pub few : e ≤ i * 4294967296
   pub leaves : (s : Growing) → StandsIn cap l w w s → Leaves l cap w w' (l.level.vertices - i) e s
 
-growth-start : {l : GrowthRoom} {w : List ℕ} (cap : ℕ) → GrowthReady l w → GrownBy l cap w w 0 0
+pub growth-start : {l : GrowthRoom} {w : List ℕ} (cap : ℕ) → GrowthReady l w → GrownBy l cap w w 0 0
 growth-start {l} {w} cap d =
     let z : l.level.vertices - 0 ≡ l.level.vertices = omega arith in
     record {
@@ -310,7 +310,7 @@ module _ {l : GrowthRoom} {cap : ℕ} {w w' w₂ : List ℕ} {i e c e' : ℕ} (d
     leaves = f;
   }
 
-  growth-step : (j : ℕ) → j ≡ cond (eqb c 0) l.level.vertices (i + 1) → GrownBy l cap w w₂ j (e + e')
+  pub growth-step : (j : ℕ) → j ≡ cond (eqb c 0) l.level.vertices (i + 1) → GrownBy l cap w w₂ j (e + e')
   growth-step j q = split (eqb c 0)
       (λ z. let jn : j ≡ l.level.vertices = q ∙ rw z in
       let none : 0 ≡ l.level.vertices - j = omega arith in
@@ -320,7 +320,7 @@ module _ {l : GrowthRoom} {cap : ℕ} {w w' w₂ : List ℕ} {i e c e' : ℕ} (d
       by-then j (omega arith) (omega arith)
       (λ s t. subst (λ (x : ℕ). Leaves l cap w w₂ (l.level.vertices - x) (e + e') s) (sym jn) (leaves-more d g.outside (old s t) m (eqb-false c 0 z))))
 
-growth-done
+pub growth-done
     : {l : GrowthRoom} {cap : ℕ} {w w' : List ℕ} {i e : ℕ} (r : Result ℕ Refusal)
     → GrownBy l cap w w' i e
     → l.level.vertices ≤ i

@@ -172,12 +172,12 @@ module _ {l : GrowthRoom} {w w' : List ℕ} (b : Blank l w) (r : ℕ) (q : r < l
   v = at (seeds_in l w) r
 
   -- the seeds stay where they are
-  seed-at : at w' (l.seeds + r) ≡ at (seeds_in l w) r
+  pub seed-at : at w' (l.seeds + r) ≡ at (seeds_in l w) r
   seed-at =
       let L = b.sown.laid in
       t.outside.between (l.seeds + r) (omega arith) (omega arith) ∙ sym (get_or-part w l.seeds (l.seeds + l.ranks) r (omega arith))
 
-  seat-pre : (GrowthLaid l (length w')) × (v < l.level.vertices) × (at (memory_in l w').loads r ≡ 0)
+  pub seat-pre : (GrowthLaid l (length w')) × (v < l.level.vertices) × (at (memory_in l w').loads r ≡ 0)
   seat-pre = (t.ready.laid, b.sown.seeds.inside r q, t.loads-are r (omega arith))
 
   free-then : at (memory_in l w').owners v ≡ unassigned
@@ -230,7 +230,7 @@ module _ {l : GrowthRoom} {w w' : List ℕ} (b : Blank l w) (r : ℕ) (q : r < l
         subst (λ (R : List (List ℕ)). front_of R (memory_in l w₂) d ≡ front_of R (memory_in l w') d) rs
         (ap (λ (m : Memory). front_of (rows_in l w') m d) after ∙ front-there t.ready.good step d x y)
 
-    seated-step : Seated l w w₂ r
+    pub seated-step : Seated l w w₂ r
     unfolding seed_owners
     seated-step = record {
       outside = outside_trans t.outside s.outside;

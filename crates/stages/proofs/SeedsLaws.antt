@@ -11,7 +11,7 @@ use lib.Seq.{get_or-set_other, ext_get_or}
 use borrow.Author.Tests.{eq-eqb, ne_eqb, eqb-true, eqb-false, lt-ltb, le-ltb}
 use Rattle.std.specs.Prelude.{Option as Given, Some, None, IfSome, unwrap_or}
 use Rattle.stages.specs.Found.{found}
-use Rattle.links.proofs.BestLaws.{step as step_of}
+use Rattle.links.proofs.BestLaws.{step as step_of, left as left_at, one_more, all-met}
 use Rattle.links.specs.Lists.{at, All, unassigned, filter, best, best_from, range, elem, above}
 use Rattle.links.specs.Parts.{part, filled_part, Kept}
 use Rattle.links.specs.Graph.{row, degree, vertices, vertex_count, Sound}
@@ -21,7 +21,7 @@ use Rattle.links.proofs.RowLaws.{length-row, row_at, offsets-fit}
 use Rattle.links.proofs.RangeLaws.{filter-ext}
 use Rattle.stages.specs.Level.{Ready, offsets_at, neighbors_at, rows_at}
 use Rattle.stages.specs.Seeds.{distances, next_seed, farthest_seeds, farther}
-use Rattle.stages.specs.SeedsCode.{from, Search, Searchable, Lies, Lowerable, Lowered, ahead, unseeded, farther_of, farthest, degree_at, Choosing, Seedable, SeededTo, Seeded}
+use Rattle.stages.specs.SeedsCode.{from, Search, Searchable, Lies, Lowerable, Lowered, ahead, unseeded, farther_of, standing, better_of, farthest, degree_at, Choosing, Seedable, SeededTo, Seeded}
 use Rattle.stages.specs.declared.level.HierarchyLevel.{HierarchyLevel}
 use Rattle.stages.proofs.DistanceLaws.{passing-gap, passing-in, unique, distances-hold, distances-length}
 use Rattle.stages.proofs.GrowthLaws.{length-seeds}
@@ -86,6 +86,70 @@ module _ (d deg : ℕ → ℕ) (i : ℕ) where
       go true true = h
       go true false = r
       go false y = r
+
+-- the code keeps a vertex, which stands for none while it is a seed: its cases
+module _ (d deg : ℕ → ℕ) (b i : ℕ) where
+  pub seed-stays : d i ≡ 0 → b ≡ better_of d deg b i
+  unfolding better_of
+  seed-stays e = rw (eq-eqb (d i) 0 e)
+
+  module _ (e : d i ≡ 0 → ⊥) where
+    better-is : (x : Bool) → ahead d deg i b ≡ x → cond x i b ≡ better_of d deg b i
+    unfolding better_of
+    better-is x g = rw (ne_eqb (d i) 0 e, g)
+
+    pub more-leads : d b < d i → i ≡ better_of d deg b i
+    more-leads h = better-is true (rw (lt-ltb (d b) (d i) h))
+
+    pub less-stays : d i ≤ d b → (d i ≡ d b → ⊥) → b ≡ better_of d deg b i
+    less-stays h k = better-is false (rw (le-ltb (d b) (d i) h, ne_eqb (d i) (d b) k))
+
+    pub degree-leads : d i ≡ d b → deg b < deg i → i ≡ better_of d deg b i
+    degree-leads h k = better-is true (rw (le-ltb (d b) (d i) (omega arith), eq-eqb (d i) (d b) h, lt-ltb (deg b) (deg i) k))
+
+    pub tie-stays : d i ≡ d b → deg i ≤ deg b → b ≡ better_of d deg b i
+    tie-stays h k = better-is false (rw (le-ltb (d b) (d i) (omega arith), eq-eqb (d i) (d b) h, le-ltb (deg b) (deg i) k))
+
+  -- its step is that of the choice
+  pub better-standing : standing d (better_of d deg b i) ≡ farther_of d deg (standing d b) i
+  unfolding better_of farther_of
+  better-standing =
+      split (eqb (d i) 0)
+      (λ p. split (eqb (d b) 0) (λ q. rw (q, p, q)) (λ q. rw (q, p, q)))
+      (λ p. split (eqb (d b) 0)
+      (λ q. rw (q, p, lt-ltb (d b) (d i) (omega (arith, eqb-true (d b) 0 q, eqb-false (d i) 0 p))) (rw p))
+      (λ q. rw (q, p) (split (ahead d deg i b) (λ r. rw (r, p)) (λ r. rw (r, q)))))
+
+  pub better-below : (n : ℕ) → b < n → i < n → better_of d deg b i < n
+  unfolding better_of
+  better-below n h k = split (unseeded d i) (λ p. rw p (split (ahead d deg i b) (λ r. rw r k) (λ r. rw r h))) (λ p. rw p h)
+
+  pub better-seed : (d b ≡ 0 → b ≡ 0) → d (better_of d deg b i) ≡ 0 → better_of d deg b i ≡ 0
+  unfolding better_of
+  better-seed h = split (unseeded d i)
+      (λ p. rw p (split (ahead d deg i b)
+      (λ r. rw r (λ z. absurd (true≢false (sym p ∙ rw (eq-eqb (d i) 0 z)))))
+      (λ r. rw r h)))
+      (λ p. rw p h)
+
+-- its end: a seed stands for none, and is vertex 0
+pub standing-end : (d : ℕ → ℕ) (b : ℕ) → (d b ≡ 0 → b ≡ 0) → b ≡ get_or (found (standing d b)) 0
+standing-end d b h = split (eqb (d b) 0) (λ p. rw p (h (eqb-true (d b) 0 p))) (λ p. rw p refl)
+
+-- the choice begins at vertex 0
+pub far-start : (d deg : ℕ → ℕ) (n : ℕ) → get_or (left_at (ahead d deg) (unseeded d) n 1 (found (standing d 0))) 0 ≡ farthest d deg n
+unfolding farthest
+far-start d deg n = split (eqb n 0)
+    (λ p. let z : n ≡ 0 = eqb-true n 0 p in
+    ap value (all-met (ahead d deg) (unseeded d) n 1 (found (standing d 0)) (omega arith)) ∙ sym (standing-end d 0 (λ z. refl)) ∙ rw z)
+    (λ p. let z : n - 0 ≡ n = omega arith in
+    ap value (ap (left_at (ahead d deg) (unseeded d) n 1) first ∙ sym (one_more (ahead d deg) (unseeded d) n 0 none (omega (arith, eqb-false n 0 p)))) ∙ rw z)
+  where
+    value : Option ℕ → ℕ
+    value o = get_or o 0
+
+    first : found (standing d 0) ≡ step_of (ahead d deg) (unseeded d) none 0
+    first = split (unseeded d 0) (λ p. rw p) (λ p. rw p)
 
 -- the end of the loop
 pub far-end

@@ -153,6 +153,14 @@ unfoldable pub farther_of : (ℕ → ℕ) → (ℕ → ℕ) → Option ℕ → �
 farther_of d deg None i = cond (unseeded d i) (Some i) None
 farther_of d deg (Some b) i = cond (unseeded d i) (Some (cond (ahead d deg i b) i b)) (Some b)
 
+-- the best so far, none while it is a seed
+abbrev pub standing : (ℕ → ℕ) → ℕ → Option ℕ
+standing d b = cond (unseeded d b) (Some b) None
+
+-- the better of two, the first one the best so far
+unfoldable pub better_of : (ℕ → ℕ) → (ℕ → ℕ) → ℕ → ℕ → ℕ
+better_of d deg b i = cond (unseeded d i) (cond (ahead d deg i b) i b) b
+
 unfoldable pub farthest : (ℕ → ℕ) → (ℕ → ℕ) → ℕ → ℕ
 farthest d deg n = get_or (best (ahead d deg) (filter (unseeded d) (range 0 n))) 0
 

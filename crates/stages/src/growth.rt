@@ -1,5 +1,5 @@
 // Rule 5: growth. A rank's frontier is a chain of the groups that it claimed, with a place in the first one's row.
-ghost use Rattle.std.specs.Prelude.{◌≡◌, true, ◌+◌, ◌-◌, ◌*◌, ◌≤◌, ◌<◌, ◌^◌, length, MatchOption};
+ghost use Rattle.std.specs.Prelude.{◌≡◌, true, ◌+◌, ◌-◌, ◌*◌, ◌≤◌, ◌<◌, ◌^◌, length, eqb, MatchOption};
 ghost use Rattle.std.proofs.Math.Option.{none, some};
 ghost use Rattle.links.specs.Lists.{at, unassigned, All};
 ghost use Rattle.links.specs.Graph.{row, degree, rows_of, vertex_count, load, SoundLists};
@@ -11,9 +11,6 @@ use super::level::{HierarchyLevel, UNASSIGNED};
 use super::order::order_by_degree;
 use super::seeds::farthest_seeds;
 use links::Refusal;
-
-// The claims of a round after which growth is stuck.
-const NO_CLAIMS: u64 = 0;
 
 // How many neighbors v has, in lists cut from the slice, where no level is at hand.
 fn degree_of(offsets: &[u32], neighbors: &[u32], v: u32) -> u32
@@ -352,6 +349,13 @@ fn vacant_in(w: &[u32], room: GrowthRoom) -> u64
     owners.iter().filter(|x| **x == UNASSIGNED).count() as u64
 }
 
+// Whether a round left as many groups as there were: it had no claim.
+fn is_idle(before: u64, left: u64) -> bool
+    ensures { result ≡ eqb left before }
+{
+    left == before
+}
+
 // Rounds until every group is owned; stuck where one passes without a claim.
 fn grow(work: &mut [u32], room: GrowthRoom, cap: u64) -> Result<u64, Refusal>
     requires { GrowthReady room work.old }
@@ -362,11 +366,12 @@ fn grow(work: &mut [u32], room: GrowthRoom, cap: u64) -> Result<u64, Refusal>
     let mut restarts: u64 = 0;
     while 0 < left {
         let t = round(work, room, cap, &mut cursors);
-        if t.claims == NO_CLAIMS {
+        let rest = left - t.claims;
+        if is_idle(left, rest) {
             return Err(Refusal::GrowthStuck);
         }
         restarts += t.restarts;
-        left -= t.claims;
+        left = rest;
     }
     Ok(restarts)
 }

@@ -21,15 +21,14 @@ pub struct HierarchyLevel {
 }
 
 impl HierarchyLevel {
-    // A level at base: its parts one after the other.
+    // A level at base: its parts one after the other, where they end below 2^64.
     // Rules out: two parts that share a place; a level without room for the last offset.
     pub fn at(vertices: usize, entries: usize, base: usize) -> HierarchyLevel
-        requires { (level_at vertices entries base).owners < 2 ^ 64 }
-        ensures { result ≡ level_at vertices entries base }
+        ensures { (level_at vertices entries base).owners < 2 ^ 64 → result ≡ level_at vertices entries base }
     {
-        let neighbors = base + (vertices + 1);
-        let weights = neighbors + entries;
-        let fine_to_coarse = weights + vertices;
+        let neighbors = base.saturating_add(vertices).saturating_add(1);
+        let weights = neighbors.saturating_add(entries);
+        let fine_to_coarse = weights.saturating_add(vertices);
         HierarchyLevel {
             vertices,
             entries,
@@ -37,22 +36,21 @@ impl HierarchyLevel {
             neighbors,
             weights,
             fine_to_coarse,
-            owners: fine_to_coarse + vertices,
+            owners: fine_to_coarse.saturating_add(vertices),
         }
     }
 
-    // The same level, unit numbers further up.
+    // The same level, unit numbers further up, where that is below 2^64.
     // Rules out: a part left where it was; fewer vertices.
     pub fn moved_up(self, unit: usize) -> HierarchyLevel
-        requires { Laid self (self.owners + self.vertices) × (self.owners + unit < 2 ^ 64) }
-        ensures { result ≡ moved_up self unit }
+        ensures { Laid self (self.owners + self.vertices) × (self.owners + unit < 2 ^ 64) → result ≡ moved_up self unit }
     {
         HierarchyLevel {
-            offsets: self.offsets + unit,
-            neighbors: self.neighbors + unit,
-            weights: self.weights + unit,
-            fine_to_coarse: self.fine_to_coarse + unit,
-            owners: self.owners + unit,
+            offsets: self.offsets.saturating_add(unit),
+            neighbors: self.neighbors.saturating_add(unit),
+            weights: self.weights.saturating_add(unit),
+            fine_to_coarse: self.fine_to_coarse.saturating_add(unit),
+            owners: self.owners.saturating_add(unit),
             ..self
         }
     }
@@ -95,19 +93,19 @@ impl HierarchyLevel {
         self.row(work, v)[i]
     }
 
-    // The highest degree below b that a vertex has.
+    // The highest degree below b that a vertex has; on the way one more than the highest so far, 0 for none.
     pub(crate) fn top_below(self, work: &[u32], b: usize) -> Option<usize>
         requires { Ready work.now self (length work.now) }
         ensures { one_above result ≡ top_below (offsets_at work.now self) b }
     {
-        let mut top: Option<usize> = None;
+        let mut above = 0;
         for v in 0..self.vertices {
             let d = self.degree(work, v);
             if d < b {
-                top = top.max(Some(d));
+                above = above.max(d + 1);
             }
         }
-        top
+        above.checked_sub(1)
     }
 }
 

@@ -130,9 +130,11 @@ fn tempted(work: &[u32], s: MoveRoom, v: usize) -> bool
 {
     let weight = weight_in(work, s.level, v);
     let home = owner_in(work, s.level, v);
+    let owners = &work[s.level.owners..s.level.owners + s.level.vertices];
+    let loads = &work[s.scratch..s.scratch + s.limits.ranks];
     for u in s.level.row(work, v) {
-        let r = owner_in(work, s.level, *u as usize);
-        if tempts(s.limits.cap, weight, work[s.scratch + r], home, r) {
+        let r = owners[*u as usize] as usize;
+        if tempts(s.limits.cap, weight, loads[r], home, r) {
             return true;
         }
     }

@@ -1,6 +1,6 @@
 // Rule 4: seeds. From `scratch` on lie the distance of each vertex to the nearest seed, the queue of a search, and the seeds.
-ghost use Rattle.std.specs.Prelude.{◌≡◌, ℕ, ◌<◌, IfSome};
-ghost use Rattle.stages.specs.SeedsCode.{from, Search, Relaxing, Relaxed, Scannable, Scanned, Lowerable, Lowered, farther_of, farthest, degree_at, Choosing, Seedable, Seeded};
+ghost use Rattle.std.specs.Prelude.{◌≡◌, ℕ, ◌<◌};
+ghost use Rattle.stages.specs.SeedsCode.{from, Search, Relaxing, Relaxed, Scannable, Scanned, Lowerable, Lowered, better_of, farthest, degree_at, Choosing, Seedable, Seeded};
 
 use super::level::{HierarchyLevel, UNASSIGNED};
 use links::fill_part;
@@ -66,43 +66,34 @@ fn degree_of(work: &[u32], l: HierarchyLevel, scratch: usize, v: u32) -> u32
 }
 
 // The better of the best so far and i, if i is no seed.
-fn farther(
-    work: &[u32],
-    l: HierarchyLevel,
-    scratch: usize,
-    best: Option<u32>,
-    i: u32,
-) -> Option<u32>
-    requires { Choosing work.now l scratch × (i < l.vertices) × IfSome best (λ b. b < l.vertices) }
-    ensures { result ≡ farther_of (from work.now scratch) (degree_at work.now l) best i }
+fn farther(work: &[u32], l: HierarchyLevel, scratch: usize, best: u32, i: u32) -> u32
+    requires { Choosing work.now l scratch × (i < l.vertices) × (best < l.vertices) }
+    ensures { result ≡ better_of (from work.now scratch) (degree_at work.now l) best i }
 {
     let a = work[scratch + i as usize];
     if a == 0 {
         return best;
     }
-    let Some(old) = best else {
-        return Some(i);
-    };
-    let b = work[scratch + old as usize];
+    let b = work[scratch + best as usize];
     if b < a {
-        return Some(i);
+        return i;
     }
-    if a == b && degree_of(work, l, scratch, old) < degree_of(work, l, scratch, i) {
-        return Some(i);
+    if a == b && degree_of(work, l, scratch, best) < degree_of(work, l, scratch, i) {
+        return i;
     }
     best
 }
 
-// The vertex farthest from the seeds, then of highest degree, then of lowest number.
+// The vertex farthest from the seeds, then of highest degree, then of lowest number. A seed is at 0, so that vertex 0 gives way to any that is none.
 fn next_seed(work: &[u32], l: HierarchyLevel, scratch: usize) -> u32
     requires { Choosing work.now l scratch }
     ensures { result ≡ farthest (from work.now scratch) (degree_at work.now l) l.vertices }
 {
-    let mut best = None;
-    for i in 0..l.vertices {
+    let mut best = 0;
+    for i in 1..l.vertices {
         best = farther(work, l, scratch, best, i as u32);
     }
-    best.unwrap_or(0)
+    best
 }
 
 // Rule 4: a seed for each rank.

@@ -78,8 +78,11 @@ fn offer_entry(work: &mut [u32], s: SwapRoom, a: usize, v: u32, i: usize)
     ensures { OfferedEntry work.old work.new s a v i }
 {
     let b = owner_at(work, s.level, i);
+    if b == a {
+        return;
+    }
     let there = work[s.tallies + b];
-    if b == a || there == 0 {
+    if there == 0 {
         return;
     }
     let home = work[s.tallies + a];

@@ -25,7 +25,7 @@ rules-are c =
 level-is : (c : After-at-l) → c.at-l.result ≡ site_level (call_of c.args.offsets.now c.args.neighbors.now c.args.workloads.now c.args.asked.ranks c.args.asked.options (length c.args.owners.now) (length c.args.work.now))
 level-is c =
     let a = c.args in
-    c.at-l.ensures ∙ ap (λ (x : ℕ). level_at x (length a.neighbors.now) 0) c.vertex_count-n.ensures
+    c.at-l.ensures (omega arith) ∙ ap (λ (x : ℕ). level_at x (length a.neighbors.now) 0) c.vertex_count-n.ensures
 
 pub total_of-requires : goal.total_of-requires
 total_of-requires c =

@@ -5,7 +5,7 @@ use lib.ListN.{length-set}
 use Rattle.links.specs.Lists.{at}
 use Rattle.stages.specs.Level.{neighbors_at}
 use Rattle.stages.proofs.ListingLaws.{entry-own, entry-met, entry-sorted, entry_new}
-use Rattle.stages.proofs.swaps.offer_entry.Goals.{After-owner_at-b, then-b-a-via-then-b-a, then-b-a-via-else-b-a+then-there-eq0}
+use Rattle.stages.proofs.swaps.offer_entry.Goals.{After-owner_at-b}
 use Rattle.stages.proofs.swaps.offer_entry.Goals as goal
 
 -- the owner that is met is a rank
@@ -16,12 +16,10 @@ met c =
     omega (arith, c.owner_at-b.ensures, p.0.ranked (at (neighbors_at a.work.now a.s.level) a.i) p.3)
 
 pub returns-then-b-a : goal.returns-then-b-a
-returns-then-b-a c =
-    let o = c.owner_at-b in
-    elim c.then-b-a.branch [
-      | then-b-a-via-then-b-a w ↦ entry-own o.result o.ensures c.requires.4 w.if-b-a.true
-      | then-b-a-via-else-b-a+then-there-eq0 w ↦ entry-met o.result o.ensures c.requires.4 w.if-b-a.false w.if-there-eq0.true
-    ]
+returns-then-b-a c = entry-own c.owner_at-b.result c.owner_at-b.ensures c.requires.4 c.if-b-a.true
+
+pub returns-then-there-eq0 : goal.returns-then-there-eq0
+returns-then-there-eq0 c = entry-met c.owner_at-b.result c.owner_at-b.ensures c.requires.4 c.if-b-a.false c.if-there-eq0.true
 
 pub offer_part-requires : goal.offer_part-requires
 offer_part-requires c =
