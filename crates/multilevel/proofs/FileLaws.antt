@@ -1,6 +1,6 @@
 -- Laws of the link file's tests, each as the code meets it. Assumes nothing.
-use Prim.Native.Nat.{ℕ, ◌-◌, ◌≤◌, ◌<◌}
-use mathlib.Core.Path.{◌≡◌, refl, sym}
+use Prim.Native.Nat.{ℕ, ◌+◌, ◌-◌, ◌≤◌, ◌<◌}
+use mathlib.Core.Path.{◌≡◌, refl, sym, ◌∙◌}
 use mathlib.Core.Bool.{Bool, true, false, ◌&&◌, ◌||◌, cond}
 use mathlib.Core.List.{List}
 use native.Mathlib.Omega.{arith}
@@ -10,7 +10,7 @@ use borrow.Author.Tests.{ltb-false, lt-ltb, le-ltb}
 use Rattle.links.specs.Lists.{any, all, range}
 use Rattle.links.specs.Options.{bad_list_length, bad_swaps}
 use Rattle.links.specs.Workloads.{bad_workload, bad_workloads}
-use Rattle.links.proofs.ListLaws.{split, and_l, and_r, or_l, or_r}
+use Rattle.links.proofs.ListLaws.{split, and_l, and_r, or_l, or_r, any-range, to-any, elem-range}
 use Rattle.multilevel.specs.File.{number, sizes_of, good_links, vertex_count_of, link_count_of, over_program_limits, good_length, file_workloads, lone_in, has_lone, file_cause, Sized}
 use Rattle.multilevel.proofs.FileWorkloadLaws.{workloads-told, links-within}
 
@@ -20,6 +20,16 @@ every-link b e s p = let z : e - 0 ≡ link_count_of b = omega (arith, s.links) 
 
 -- ---- lone vertices
 
+-- the vertices gone through from the last down
+pub lone-next
+    : (b : List ℕ) (n v : ℕ)
+    → 0 < v
+    → v ≤ n
+    → any (lone_in b) (range v (n - v)) ≡ false
+    → lone_in b (v - 1) ≡ false
+    → any (lone_in b) (range (v - 1) (n - (v - 1))) ≡ false
+lone-next b n v p k s f = let z : (v - 1) + 1 ≡ v = omega arith in any-range (lone_in b) (v - 1) n (omega arith) ∙ rw (f, z) s
+
 module _ (b : List ℕ) (n : ℕ) (e : n ≡ vertex_count_of b) where
   pub lone-few : n < 2 → false ≡ has_lone b
   unfolding has_lone
@@ -28,6 +38,13 @@ module _ (b : List ℕ) (n : ℕ) (e : n ≡ vertex_count_of b) where
   pub lone-many : 2 ≤ n → any (lone_in b) (range 0 n) ≡ has_lone b
   unfolding has_lone
   lone-many h = rw (lt-ltb 1 (vertex_count_of b) (omega arith), e)
+
+  module _ (h : 2 ≤ n) where
+    pub lone-found : (v : ℕ) → v < n → lone_in b v ≡ true → true ≡ has_lone b
+    lone-found v k l = sym (to-any (lone_in b) (range 0 n) v (elem-range v 0 n (omega arith) (omega arith)) l) ∙ lone-many h
+
+    pub lone-none : (v : ℕ) → v ≡ 0 → any (lone_in b) (range v (n - v)) ≡ false → false ≡ has_lone b
+    lone-none v p s = let z : n - v ≡ n = omega arith in sym (rw (z, p) at s) ∙ lone-many h
 
 -- ---- the check's answers
 

@@ -126,7 +126,7 @@ impl<'a> LinkFile<'a> {
         true
     }
 
-    // Whether one of two vertices or more is lone.
+    // Whether one of two vertices or more is lone; the last is looked at first.
     pub(crate) fn has_lone(self) -> bool
         ensures { result ≡ has_lone self.entry.bytes.now }
     {
@@ -134,7 +134,7 @@ impl<'a> LinkFile<'a> {
         if n < LINKED_FROM {
             return false;
         }
-        for v in 0..n {
+        for v in (0..n).rev() {
             if self.is_lone(v) {
                 return true;
             }
