@@ -23,7 +23,7 @@ use Rattle.visits.proofs.SweepLaws.{counted-after, after_one, step_sum, step-to,
 -- ---- cause 21
 
 -- of days that never fall the last is the latest
-last-late : (days : List ℕ) (m : ℕ) → never_falling days ≡ true → 1 ≤ length days → ltb m (at days (length days - 1)) ≡ any (ltb m) days
+pub last-late : (days : List ℕ) (m : ℕ) → never_falling days ≡ true → 1 ≤ length days → ltb m (at days (length days - 1)) ≡ any (ltb m) days
 last-late days m e h = split (ltb m last)
     (λ p. p ∙ sym (to-any (ltb m) days last (elem-place days (length days - 1) last (omega arith) refl) p))
     (λ p. p ∙ sym (none_any (ltb m) days (by_place (λ x. ltb m x ≡ false) days (λ i k.

@@ -81,7 +81,7 @@ module _ {counts days starts : List ℕ} (l : Laid counts days) (s : Started cou
       let p = part-there in
       omega (arith, length_part days (at starts r) (at starts (r + 1)) p.1 p.2, begins, ends, from_more counts r h, count-few counts l.few r h)
 
-  part-windows : windows_in (part days (at starts r) (at starts (r + 1))) ≡ windows_of counts days r
+  pub part-windows : windows_in (part days (at starts r) (at starts (r + 1))) ≡ windows_of counts days r
   unfolding windows_of
   part-windows = rw (begins, ends)
 
